@@ -1,0 +1,142 @@
+-- Proposition 3: the gathered value of each place after one more pick, whichever way values are joined (the paper, Section 4).
+use mathlib.Core.Path.{_≡_, refl, sym, ap, _∙_}
+use Prim.Native.Nat.{ℕ, suc, _+_, _-_, _*_, _≤_, _<_}
+use native.Mathlib.Omega.{arith}
+use native.Mathlib.Decide.{decLe, decLt}
+use Rattle.words.specs.Definitions.{Ending, LeastPeriod, Leading, LastLead, NextLeading, Cubic, nextLeading, laterPlaces}
+use Rattle.words.specs.Search.{largest, largest-eq, largest-one, largest-on, smallest, smallest-one}
+use Rattle.words.specs.Mirror.{mirror}
+use Rattle.words.specs.Periods.{shorter, window, overlap, extend, retract}
+use Rattle.words.specs.Computed.{leadsFrom?, cubic?, leastPeriod, many, over, gathered, mended}
+use Rattle.words.specs.Laws.{least-period, leads-own, last-lead}
+use Rattle.words.specs.Lengths.{places-end, places-one, places-more}
+use Rattle.words.specs.Series.{period-fits, next-is}
+
+-- The key: a leading ending of three periods or more, and the stretch with the same start that is one period shorter
+module _ {w : ℕ → ℕ} {n len m k p : ℕ} (L : Leading w n len) (a : LeastPeriod w n len p) (s : m + p ≡ n) (t : k + p ≡ len) (l : 2 * p ≤ k) where
+  pub before-least : LeastPeriod w m k p
+  before-least = record {
+    is = record { fits = omega (arith, a .is .fits); pos = a .is .pos; same = λ i j c. a .is .same i j (omega arith) };
+    least = λ q h. elim (decLe p q) [
+      | yes y ↦ y
+      | no y ↦ a .least q (window (a .is) h (omega arith) (omega arith) (omega arith))
+    ];
+  }
+
+  pub before-leading : Leading w m k
+  before-leading = record {
+    is = retract (L .is) (a .is) s t;
+    leads = λ j q f h b. elim (decLt k (2 * q)) [
+      | yes y ↦ y
+      | no y ↦
+          let x = before-least .least q (shorter b (omega arith)) in
+          let c = window b (before-least .is) (omega arith) (omega arith) (omega arith) in
+          let d = overlap {r = j + p} c (a .is) (omega arith) (omega arith) (omega arith) in
+          absurd (omega (arith, a .is .pos, L .leads (j + p) p (extend f d s refl (omega arith)) (omega arith) d))
+    ];
+  }
+
+  -- between the two no ending starts there
+  pub none-between : {i j : ℕ} → Ending w i j → i + k ≡ m + j → m < i → i < n → ⊥
+  none-between {i} f e g h = omega (
+    arith,
+    a .least (n - i) (record {
+      fits = a .is .fits;
+      pos = omega arith;
+      same = λ x y c. let r : ℕ = n + n - len - 1 - y in mirror f x r (omega (arith, a .is .fits)) ∙ mirror (L .is) r y (omega (arith, a .is .fits));
+    }),
+  )
+
+-- Gathered values
+
+module _ (op : ℕ → ℕ → ℕ) (r w : ℕ → ℕ) where
+  pub over-is : (i j len p : ℕ) → i + len ≡ j → 0 < len → LeastPeriod w j len p → over op r w i j ≡ many op r i p (laterPlaces len p)
+  unfolding over
+  over-is i j len p e h a =
+      let z : j - i ≡ len = omega arith in
+      let y : leastPeriod w j len ≡ p = smallest-one (least-period {w = w} {n = j} len h (omega arith)) a in
+      rw (z, y)
+
+  pub over-own : (i : ℕ) → over op r w i i ≡ r i
+  unfolding over many leastPeriod smallest
+  over-own i = let z : i - i ≡ 0 = omega arith in rw z
+
+  pub gathered-over : (n i j : ℕ) → LastLead w n i j → gathered op r w n i ≡ over op r w i j
+  unfolding gathered
+  gathered-over n i j h = ap (over op r w i) (largest-eq (leadsFrom? w i) h)
+
+  -- document 01's sentence: j the largest, p its least period, d the next shorter leading length, the values from i by steps of p to j - d - p
+  pub gathered-is : (n i j p d : ℕ) → LastLead w n i j → i < j → LeastPeriod w j (j - i) p → NextLeading w j (j - i) d
+      → (c : ℕ) × (i + c * p + d + p ≡ j) × (gathered op r w n i ≡ many op r i p c)
+  gathered-is n i j p d h l a b =
+      let L : Leading w j (j - i) = h .is .is in
+      let some : 0 < j - i = omega arith in
+      let e : d ≡ nextLeading (j - i) p = largest-one b (next-is L a some) in
+      let c : ℕ = laterPlaces (j - i) p in
+      let s : i + c * p + d + p ≡ j = omega (arith, places-end (j - i) p (a .is .pos) (period-fits L a some)) in
+      (c, s, gathered-over n i j h ∙ over-is i j (j - i) p (omega arith) some a)
+
+  -- the last place has its own value
+  pub gathered-own : (n : ℕ) → gathered op r w n n ≡ r n
+  gathered-own n = gathered-over n n n (record { below = omega arith; is = leads-own w n; most = λ j h l. omega arith }) ∙ over-own n
+
+  -- unchanged where no leading ending starts
+  pub gathered-kept : (m i : ℕ) → i ≤ m → (Leading w (suc m) (suc m - i) → ⊥) → gathered op r w (suc m) i ≡ gathered op r w m i
+  gathered-kept m i h f =
+      let j : ℕ = largest (leadsFrom? w i) (suc m) in
+      let a : LastLead w m i j = last-lead w m i h in
+      let b : LastLead w (suc m) i j = largest-on (omega arith) (λ x y c g. f (let z : x ≡ suc m = omega arith in rw z at (g .is))) a in
+      gathered-over (suc m) i j b ∙ sym (gathered-over m i j a)
+
+  module _ (m i len p : ℕ) (e : i + len ≡ suc m) (some : 0 < len) (L : Leading w (suc m) len) (a : LeastPeriod w (suc m) len p) where
+    leads-here : LastLead w (suc m) i (suc m)
+    leads-here =
+        let z : suc m - i ≡ len = omega arith in
+        record { below = omega arith; is = record { from = omega arith; is = rw z L }; most = λ j h l. omega arith }
+
+    pub gathered-series : gathered op r w (suc m) i ≡ many op r i p (laterPlaces len p)
+    gathered-series = gathered-over (suc m) i (suc m) leads-here ∙ over-is i (suc m) len p e some a
+
+    -- the own value where three periods do not fit
+    gathered-short : len < 3 * p → gathered op r w (suc m) i ≡ r i
+    unfolding many
+    gathered-short h = gathered-series ∙ ap (many op r i p) (places-one len p (a .is .pos) (period-fits L a some) h)
+
+    -- the old value joined with that of place n - d - p where they do
+    gathered-long : 3 * p ≤ len → gathered op r w (suc m) i ≡ op (gathered op r w m i) (r (suc m - nextLeading len p - p))
+    unfolding many
+    gathered-long h =
+        let k : ℕ = len - p in
+        let j : ℕ = suc m - p in
+        let pos : 0 < p = a .is .pos in
+        let s : j + p ≡ suc m = omega arith in
+        let t : k + p ≡ len = omega arith in
+        let l : 2 * p ≤ k = omega arith in
+        let c : laterPlaces len p ≡ suc (laterPlaces k p) = places-more len p k pos t l in
+        let old : gathered op r w m i ≡ many op r i p (laterPlaces k p) =
+        gathered-over m i j (was j k (omega arith) s t l)
+        ∙ over-is i j k p (omega arith) (omega arith) (before-least L a s t l) in
+        let place : i + suc (laterPlaces k p) * p ≡ suc m - nextLeading len p - p =
+        omega (arith, places-end len p pos (omega arith), ap (λ x. x * p) c) in
+        gathered-series ∙ ap (many op r i p) c ∙ rw (old, place)
+      where
+        was : (j k : ℕ) → i + k ≡ j → j + p ≡ suc m → k + p ≡ len → 2 * p ≤ k → LastLead w m i j
+        was j k x s t l =
+            let z : j - i ≡ k = omega arith in
+            record {
+              below = omega (arith, a .is .pos);
+              is = record { from = omega arith; is = rw z (before-leading L a s t l) };
+              most = λ y g b. elim (decLe y j) [
+                | yes q ↦ q
+                | no q ↦ absurd (none-between L a s t l (g .is .is) (omega (arith, g .from)) (omega arith) b)
+              ];
+            }
+
+    -- PROPOSITION 3 at a place where a leading ending starts
+    pub gathered-mended : gathered op r w (suc m) i ≡ mended op r (suc m) len p (gathered op r w m i)
+    unfolding mended
+    gathered-mended = go (cubic? len p) refl
+      where
+        go : (d : Dec (Cubic len p)) → cubic? len p ≡ d → gathered op r w (suc m) i ≡ mended op r (suc m) len p (gathered op r w m i)
+        go (yes h) q = rw (q, mended) (gathered-long (omega arith))
+        go (no h) q = rw (q, mended) (gathered-short (omega arith) ∙ ap r (omega arith))

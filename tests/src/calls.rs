@@ -1,0 +1,74 @@
+//! The ten calls of document 01, with their refusals.
+//!
+//! "Each call that is given a state, other than start, tests 7 first; every call
+//! then tests those input numbers whose inputs it has, in rising order but for 5,
+//! then 8, 9 or 10, then 5." "A refusal returns its number only; state and lent
+//! buffers keep every byte. On success, entries past those named keep theirs."
+
+mod asking;
+mod feeding;
+mod lifting;
+mod showing;
+mod splitting;
+mod state;
+
+pub use asking::{longest_centre, mask_of_prefix, next_centre, radius_at};
+pub use feeding::{feed, start, Taken};
+pub use lifting::lift;
+pub use showing::{show, show_number};
+pub use splitting::{folded_record, split};
+pub use state::State;
+
+/// A call's values, or the number it is refused with.
+pub type Answer<T> = Result<T, Refusal>;
+
+/// A refusal number, 1 to 10.
+pub type Refusal = u8;
+
+/// 1: K outside 1 to 8, or k outside 1 to K.
+const SECTIONS_OUT_OF_RANGE: Refusal = 1;
+
+/// 2: pick not A to Z, in feeding or in looking up a lift.
+const NOT_A_PICK: Refusal = 2;
+
+/// 3: visit list under 19 entries, or ends list under k entries.
+const LIST_TOO_SHORT: Refusal = 3;
+
+/// 4: prefix above n, centre outside 1 to 2n+1, or s outside 1 to the number of
+/// ends.
+const PLACE_OUT_OF_RANGE: Refusal = 4;
+
+/// 5: record longer than the lent output.
+const OUTPUT_TOO_SHORT: Refusal = 5;
+
+/// 6: ends not rising strictly from above 0 to exactly the number of lent letters.
+const ENDS_NOT_RISING: Refusal = 6;
+
+/// 7: stored n above 2,048 or stored K outside 1 to 8.
+const STATE_OUT_OF_RANGE: Refusal = 7;
+
+/// 8: feeding with n = 2,048.
+const DRAFT_FULL: Refusal = 8;
+
+/// 9: no division of the prefix into k sections exists.
+const NO_SPLIT: Refusal = 9;
+
+/// 10: the centre belongs to no ending, or to the empty one, when the next shorter
+/// is sought.
+const NO_ENDING_THERE: Refusal = 10;
+
+/// The refusal number when its line is met.
+fn refuse_if(met: bool, number: Refusal) -> Answer<()> {
+    if met {
+        Err(number)
+    } else {
+        Ok(())
+    }
+}
+
+/// Writes lengths or pick numbers, none above 2,048, to the front of a lent list.
+fn write_front(list: &mut [u16], numbers: &[usize]) {
+    for (entry, &number) in list[..numbers.len()].iter_mut().zip(numbers) {
+        *entry = number as u16;
+    }
+}

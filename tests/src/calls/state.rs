@@ -1,0 +1,59 @@
+//! The stored draft.
+
+use super::{refuse_if, Answer, PLACE_OUT_OF_RANGE, SECTIONS_OUT_OF_RANGE, STATE_OUT_OF_RANGE};
+use crate::fast::Fast;
+use crate::plain::is_most_sections;
+use crate::{memo, MOST_PICKS};
+
+/// A stored state: n, K, and the letters, of which the first n are the draft.
+#[derive(Clone, Debug, PartialEq, Eq)]
+pub struct State {
+    pub n: usize,
+    pub most_sections: usize,
+    pub letters: [u8; MOST_PICKS],
+}
+
+impl State {
+    /// The empty draft with K.
+    pub fn empty(most_sections: usize) -> State {
+        State {
+            n: 0,
+            most_sections,
+            letters: [0; MOST_PICKS],
+        }
+    }
+
+    /// Number 7: "Stored n above 2,048 or stored K outside 1 to 8."
+    pub(super) fn check(&self) -> Answer<()> {
+        let good = self.n <= MOST_PICKS && is_most_sections(self.most_sections);
+        refuse_if(!good, STATE_OUT_OF_RANGE)
+    }
+
+    /// Number 1 of a call with k: "k outside 1 to K."
+    pub(super) fn check_sections(&self, k: usize) -> Answer<()> {
+        refuse_if(
+            !(1..=self.most_sections).contains(&k),
+            SECTIONS_OUT_OF_RANGE,
+        )
+    }
+
+    /// Number 4 of a call with a prefix: "Prefix above n."
+    pub(super) fn check_prefix(&self, i: usize) -> Answer<()> {
+        refuse_if(i > self.n, PLACE_OUT_OF_RANGE)
+    }
+
+    /// Number 4 of a call with a centre: "centre outside 1 to 2n+1."
+    pub(super) fn check_centre(&self, centre: usize) -> Answer<()> {
+        refuse_if(!(1..=2 * self.n + 1).contains(&centre), PLACE_OUT_OF_RANGE)
+    }
+
+    /// The first i letters.
+    pub(super) fn prefix(&self, i: usize) -> &[u8] {
+        &self.letters[..i]
+    }
+
+    /// Puts a question about the draft to its tables.
+    pub(super) fn ask<T>(&self, question: impl FnOnce(&Fast) -> T) -> T {
+        memo::ask(self.prefix(self.n), self.most_sections, question)
+    }
+}

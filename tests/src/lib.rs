@@ -1,0 +1,34 @@
+//! The comparison program: the definitions of document 01 written out, so that
+//! the board's answers can be compared with them.
+//!
+//! `plain` holds each definition literally on slices, slow and obvious.
+//! `fast` answers the same questions for drafts of 2,048 picks by tables.
+//! `calls` holds the ten calls with their refusals, and `book` the plain book.
+//! `draft` is the draft program as a function from bytes to bytes.
+//! `samples` makes the drafts that tests are run on.
+
+pub mod book;
+pub mod calls;
+pub mod draft;
+pub mod fast;
+mod memo;
+pub mod plain;
+pub mod samples;
+
+/// "A draft has 0 to 2,048 picks."
+pub const MOST_PICKS: usize = 2_048;
+
+/// "Visit list under 19 entries" is refused.
+pub const VISIT_ROOM: usize = 19;
+
+/// "K, chosen at the start, is 1 to 8."
+pub const MOST_SECTIONS: usize = 8;
+
+/// "A pick is one byte, A to Z (65 to 90)": the first of them.
+pub const FIRST_PICK: u8 = 65;
+
+/// "A pick is one byte, A to Z (65 to 90)": the last of them.
+pub const LAST_PICK: u8 = 90;
+
+/// Byte 10, which closes the folded record and every line of the draft program.
+pub const LINE_END: u8 = 10;

@@ -1,0 +1,27 @@
+//! Every definition of document 01, literally, on slices of letters.
+//!
+//! Picks are numbered from 1, so picks i+1 to j of a draft are `draft[i..j]`.
+//! Lengths and places are in whole picks, centres in half picks.
+
+mod centres;
+mod endings;
+mod gathered;
+mod picks;
+mod record;
+mod rows;
+mod show;
+mod splits;
+mod stretch;
+
+pub use centres::{longest_centre, next_centre, radius_at};
+pub use endings::{
+    endings, is_ending, is_leading, longest_ending, next_leading_by_formula, next_shorter,
+    next_shorter_leading, visits,
+};
+pub use gathered::{gathered_places, gathered_word};
+pub use picks::{is_pick, lift};
+pub use record::folded_record;
+pub use rows::{is_joined, is_most_sections, mask, row_word};
+pub use show::section;
+pub use splits::{all_splits, named_split, section_lengths};
+pub use stretch::{centre, is_mirrored, is_period, is_section, least_period, periods, radius};

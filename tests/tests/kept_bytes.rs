@@ -1,0 +1,111 @@
+//! "A refusal returns its number only; state and lent buffers keep every byte. On
+//! success, entries past those named keep theirs."
+
+#[path = "support/fed.rs"]
+mod fed;
+
+use comparison::calls::{self, State};
+use comparison::samples::every_draft_to;
+use comparison::{plain, MOST_PICKS, MOST_SECTIONS};
+use fed::fed;
+
+/// What each entry of a lent list holds before a call.
+const ENTRY: u16 = 0xBEEF;
+
+/// What each byte of a lent output holds before a call.
+const BYTE: u8 = 0xA5;
+
+#[test]
+fn refused_feeds_keep_the_state_and_the_list() {
+    let full = State {
+        n: MOST_PICKS,
+        most_sections: MOST_SECTIONS,
+        letters: [b'A'; MOST_PICKS],
+    };
+    let odd = State {
+        n: MOST_PICKS + 1,
+        ..full.clone()
+    };
+    let cases = [
+        (fed(b"ABA", 8), b'A', 18, 3),
+        (fed(b"ABA", 8), b'a', 19, 2),
+        (full, b'A', 19, 8),
+        (odd, b'A', 19, 7),
+    ];
+    for (before, pick, entries, number) in cases {
+        let mut state = before.clone();
+        let mut list = vec![ENTRY; entries];
+        assert_eq!(calls::feed(&mut state, pick, &mut list), Err(number));
+        assert_eq!(list, vec![ENTRY; entries], "number {number}");
+        assert!(state == before, "number {number}");
+    }
+}
+
+#[test]
+fn accepted_feeds_keep_the_entries_past_the_visits() {
+    for draft in every_draft_to(2, 9).filter(|draft| !draft.is_empty()) {
+        let text = String::from_utf8_lossy(&draft);
+        let (last, before) = draft.split_last().unwrap();
+        let mut state = fed(before, MOST_SECTIONS);
+        let mut list = [ENTRY; 24];
+        let taken = calls::feed(&mut state, *last, &mut list).unwrap();
+        let mut expected: Vec<u16> = plain::visits(&draft).iter().map(|&l| l as u16).collect();
+        assert_eq!(taken.visits, expected.len(), "{text}");
+        expected.resize(24, ENTRY);
+        assert_eq!(list.to_vec(), expected, "{text}");
+        assert_eq!(state.n, draft.len(), "{text}");
+        assert_eq!(state.letters[..state.n], draft, "{text}");
+    }
+}
+
+#[test]
+fn refused_splits_keep_the_list() {
+    let state = fed(b"ABACDDC", 7);
+    for (i, k, entries) in [(7, 0, 9), (7, 8, 9), (7, 2, 1), (8, 2, 9), (7, 3, 9)] {
+        let mut list = vec![ENTRY; entries];
+        assert!(calls::split(&state, i, k, &mut list).is_err());
+        assert_eq!(list, vec![ENTRY; entries], "prefix {i} in {k}");
+    }
+    let mut list = [ENTRY; 9];
+    let odd = State { n: 2_049, ..state };
+    assert_eq!(calls::split(&odd, 7, 2, &mut list), Err(7));
+    assert_eq!(list, [ENTRY; 9]);
+}
+
+#[test]
+fn accepted_splits_keep_the_entries_past_the_ends() {
+    let state = fed(b"ABACDDC", MOST_SECTIONS);
+    let mut list = [ENTRY; 6];
+    assert_eq!(calls::split(&state, 7, 2, &mut list), Ok(2));
+    assert_eq!(list, [3, 7, ENTRY, ENTRY, ENTRY, ENTRY]);
+    assert_eq!(calls::split(&state, 3, 3, &mut list), Ok(3));
+    assert_eq!(list, [1, 2, 3, ENTRY, ENTRY, ENTRY]);
+    assert_eq!(calls::split(&state, 5, 1, &mut list), Err(9));
+    assert_eq!(list, [1, 2, 3, ENTRY, ENTRY, ENTRY]);
+}
+
+#[test]
+fn refused_records_keep_the_output() {
+    let state = fed(b"ABACDDC", 7);
+    for (i, k, bytes) in [(7, 0, 40), (7, 8, 40), (8, 2, 40), (7, 3, 40), (7, 2, 13)] {
+        let mut output = vec![BYTE; bytes];
+        assert!(calls::folded_record(&state, i, k, &mut output).is_err());
+        assert_eq!(output, vec![BYTE; bytes], "prefix {i} in {k}");
+    }
+    let mut output = [BYTE; 40];
+    let odd = State {
+        most_sections: 9,
+        ..state
+    };
+    assert_eq!(calls::folded_record(&odd, 7, 2, &mut output), Err(7));
+    assert_eq!(output, [BYTE; 40]);
+}
+
+#[test]
+fn accepted_records_keep_the_bytes_past_the_record() {
+    let state = fed(b"ABACDDC", MOST_SECTIONS);
+    let mut output = [BYTE; 20];
+    assert_eq!(calls::folded_record(&state, 7, 2, &mut output), Ok(14));
+    assert_eq!(&output[..14], b"7,2,3,AB,4,CD\n");
+    assert_eq!(output[14..], [BYTE; 6]);
+}

@@ -1,0 +1,99 @@
+//! Which number is given when the lines of several are met.
+
+#[path = "support/fed.rs"]
+mod fed;
+
+use comparison::calls::{self, State};
+use comparison::{MOST_PICKS, MOST_SECTIONS, VISIT_ROOM};
+use fed::fed;
+
+/// A full draft with K as stored.
+fn full(most_sections: usize) -> State {
+    State {
+        n: MOST_PICKS,
+        most_sections,
+        letters: [b'A'; MOST_PICKS],
+    }
+}
+
+/// Feed: 7, then 2, then 3, then 8.
+#[test]
+fn feed() {
+    let short = &mut [0; VISIT_ROOM - 1];
+    let list = &mut [0; VISIT_ROOM];
+    assert_eq!(calls::feed(&mut full(9), b'a', short), Err(7));
+    assert_eq!(calls::feed(&mut full(9), b'a', list), Err(7));
+    assert_eq!(calls::feed(&mut full(9), b'A', short), Err(7));
+    assert_eq!(calls::feed(&mut full(9), b'A', list), Err(7));
+    assert_eq!(calls::feed(&mut full(8), b'a', short), Err(2));
+    assert_eq!(calls::feed(&mut full(8), b'a', list), Err(2));
+    assert_eq!(calls::feed(&mut full(8), b'A', short), Err(3));
+    assert_eq!(calls::feed(&mut full(8), b'A', list), Err(8));
+}
+
+/// Mask and radius: 7, then 4.
+#[test]
+fn mask_and_radius() {
+    let beyond = MOST_PICKS + 1;
+    assert_eq!(calls::mask_of_prefix(&full(0), beyond), Err(7));
+    assert_eq!(calls::mask_of_prefix(&full(1), beyond), Err(4));
+    assert_eq!(calls::radius_at(&full(0), 0), Err(7));
+    assert_eq!(calls::radius_at(&full(1), 0), Err(4));
+}
+
+/// Next shorter ending: 7, then 4, then 10. A centre outside 1 to 2n+1 belongs to no
+/// ending either.
+#[test]
+fn next_shorter_ending() {
+    let beyond = 2 * MOST_PICKS + 2;
+    for centre in [0, beyond] {
+        assert_eq!(calls::next_centre(&full(0), centre), Err(7));
+        assert_eq!(calls::next_centre(&full(8), centre), Err(4));
+    }
+    assert_eq!(calls::next_centre(&full(0), 1), Err(7));
+    assert_eq!(calls::next_centre(&full(8), 1), Err(10));
+}
+
+/// Split: 7, then 1, then 3, then 4, then 9.
+#[test]
+fn split() {
+    let state = fed(b"AB", MOST_SECTIONS);
+    let beyond = MOST_PICKS + 1;
+    assert_eq!(calls::split(&full(9), beyond, 0, &mut []), Err(7));
+    assert_eq!(calls::split(&full(9), beyond, 9, &mut []), Err(7));
+    assert_eq!(calls::split(&full(9), beyond, 1, &mut []), Err(7));
+    assert_eq!(calls::split(&full(9), beyond, 1, &mut [0]), Err(7));
+    assert_eq!(calls::split(&full(9), 0, 1, &mut [0]), Err(7));
+    assert_eq!(calls::split(&state, 3, 9, &mut []), Err(1));
+    assert_eq!(calls::split(&state, 2, 9, &mut []), Err(1));
+    assert_eq!(calls::split(&state, 3, 0, &mut []), Err(1));
+    assert_eq!(calls::split(&state, 2, 0, &mut [0]), Err(1));
+    assert_eq!(calls::split(&state, 3, 1, &mut []), Err(3));
+    assert_eq!(calls::split(&state, 2, 1, &mut []), Err(3));
+    assert_eq!(calls::split(&state, 3, 1, &mut [0]), Err(4));
+    assert_eq!(calls::split(&state, 2, 1, &mut [0]), Err(9));
+}
+
+/// Record: 7, then 1, then 4, then 9, then 5.
+#[test]
+fn record() {
+    let state = fed(b"AB", MOST_SECTIONS);
+    let beyond = MOST_PICKS + 1;
+    assert_eq!(calls::folded_record(&full(9), beyond, 0, &mut []), Err(7));
+    assert_eq!(calls::folded_record(&full(9), beyond, 1, &mut []), Err(7));
+    assert_eq!(calls::folded_record(&full(9), 0, 1, &mut []), Err(7));
+    assert_eq!(calls::folded_record(&full(9), 1, 1, &mut []), Err(7));
+    assert_eq!(calls::folded_record(&state, 3, 0, &mut []), Err(1));
+    assert_eq!(calls::folded_record(&state, 2, 9, &mut []), Err(1));
+    assert_eq!(calls::folded_record(&state, 3, 1, &mut []), Err(4));
+    assert_eq!(calls::folded_record(&state, 2, 1, &mut []), Err(9));
+    assert_eq!(calls::folded_record(&state, 2, 2, &mut []), Err(5));
+}
+
+/// Show: 4, then 6.
+#[test]
+fn show() {
+    assert_eq!(calls::show_number(b"AB", &[2, 1], 0), 4);
+    assert_eq!(calls::show_number(b"AB", &[2, 1], 3), 4);
+    assert_eq!(calls::show_number(b"AB", &[2, 1], 2), 6);
+}

@@ -1,0 +1,288 @@
+//! Each refusal number on both sides of its bound.
+
+#[path = "support/fed.rs"]
+mod fed;
+
+use comparison::calls::{self, State};
+use comparison::{MOST_PICKS, MOST_SECTIONS, VISIT_ROOM};
+use fed::fed;
+
+/// A state of n picks, all A, and K as stored, made by no call.
+fn stored(n: usize, most_sections: usize) -> State {
+    State {
+        n,
+        most_sections,
+        letters: [b'A'; MOST_PICKS],
+    }
+}
+
+/// What each call that is given a state, other than start, refuses with, on inputs
+/// that no other line refuses; none when accepted.
+fn numbers_of_all_calls(state: &State) -> [Option<u8>; 7] {
+    [
+        calls::feed(&mut state.clone(), b'A', &mut [0; VISIT_ROOM]).err(),
+        calls::mask_of_prefix(state, 1).err(),
+        calls::radius_at(state, 1).err(),
+        calls::longest_centre(state).err(),
+        calls::next_centre(state, 2 * state.n).err(),
+        calls::split(state, 1, 1, &mut [0; 1]).err(),
+        calls::folded_record(state, 1, 1, &mut [0; 8]).err(),
+    ]
+}
+
+#[test]
+fn number_1_in_start() {
+    for most_sections in [0, 9, 255, 256 + 8, usize::MAX] {
+        let mut state = fed(b"AB", 5);
+        assert_eq!(calls::start(&mut state, most_sections), Err(1));
+        assert_eq!(state, fed(b"AB", 5), "K {most_sections}");
+    }
+    for most_sections in [1, 8] {
+        let mut state = fed(b"AB", 5);
+        assert_eq!(calls::start(&mut state, most_sections), Ok(()));
+        assert_eq!(state, fed(b"", most_sections));
+    }
+}
+
+#[test]
+fn number_1_in_split_and_record() {
+    for most_sections in 1..=MOST_SECTIONS {
+        let state = fed(b"AAAAAAAAAA", most_sections);
+        for k in [0, most_sections + 1, 256 + 1, usize::MAX] {
+            assert_eq!(calls::split(&state, 10, k, &mut [0; 16]), Err(1), "k {k}");
+            let refused = calls::folded_record(&state, 10, k, &mut [0; 99]);
+            assert_eq!(refused, Err(1), "k {k}");
+        }
+        for k in [1, most_sections] {
+            assert_eq!(calls::split(&state, 10, k, &mut [0; 16]), Ok(k));
+            let accepted = calls::folded_record(&state, 10, k, &mut [0; 99]);
+            assert!(accepted.is_ok(), "k {k}");
+        }
+    }
+}
+
+#[test]
+fn number_2_in_feed_and_lift() {
+    for byte in 0..=255 {
+        let mut state = fed(b"", MOST_SECTIONS);
+        let fed_number = calls::feed(&mut state, byte, &mut [0; VISIT_ROOM]).err();
+        let expected = (!(65..=90).contains(&byte)).then_some(2);
+        assert_eq!(fed_number, expected, "byte {byte}");
+        assert_eq!(calls::lift(byte).err(), expected, "byte {byte}");
+    }
+}
+
+#[test]
+fn number_3_in_feed() {
+    for (entries, expected) in [(0, Some(3)), (18, Some(3)), (19, None), (20, None)] {
+        let mut state = fed(b"AB", MOST_SECTIONS);
+        let answer = calls::feed(&mut state, b'C', &mut vec![0; entries]);
+        assert_eq!(answer.err(), expected, "{entries} entries");
+    }
+}
+
+#[test]
+fn number_3_in_split() {
+    let state = fed(b"AAAAAAAA", MOST_SECTIONS);
+    for k in 1..=MOST_SECTIONS {
+        assert_eq!(calls::split(&state, 8, k, &mut vec![0; k - 1]), Err(3));
+        assert_eq!(calls::split(&state, 8, k, &mut vec![0; k]), Ok(k));
+        assert_eq!(calls::split(&state, 8, k, &mut vec![0; k + 1]), Ok(k));
+    }
+}
+
+#[test]
+fn number_4_by_prefix() {
+    let state = fed(b"ABA", MOST_SECTIONS);
+    assert_eq!(calls::mask_of_prefix(&state, 0), Ok(0));
+    assert_eq!(calls::mask_of_prefix(&state, 3), Ok(5));
+    assert_eq!(calls::split(&state, 3, 1, &mut [0; 1]), Ok(1));
+    assert_eq!(calls::folded_record(&state, 3, 1, &mut [0; 99]), Ok(9));
+    for i in [4, 1 << 16, usize::MAX] {
+        assert_eq!(calls::mask_of_prefix(&state, i), Err(4));
+        assert_eq!(calls::split(&state, i, 1, &mut [0; 1]), Err(4));
+        assert_eq!(calls::folded_record(&state, i, 1, &mut [0; 99]), Err(4));
+    }
+}
+
+#[test]
+fn number_4_by_centre() {
+    for draft in ["", "A", "ABA"] {
+        let n = draft.len();
+        let state = fed(draft.as_bytes(), MOST_SECTIONS);
+        for centre in [0, 2 * n + 2, usize::MAX] {
+            assert_eq!(calls::radius_at(&state, centre), Err(4), "{draft} {centre}");
+            assert_eq!(
+                calls::next_centre(&state, centre),
+                Err(4),
+                "{draft} {centre}"
+            );
+        }
+        for centre in [1, 2 * n + 1] {
+            assert_eq!(calls::radius_at(&state, centre), Ok(0), "{draft} {centre}");
+            let number = calls::next_centre(&state, centre).err();
+            assert_eq!(number, Some(10), "{draft} {centre}");
+        }
+    }
+}
+
+#[test]
+fn number_4_in_show() {
+    for (s, number, part) in [(0, 4, ""), (1, 0, "AB"), (2, 0, "A"), (3, 4, "")] {
+        assert_eq!(calls::show_number(b"ABA", &[2, 3], s), number, "s {s}");
+        assert_eq!(calls::show(b"ABA", &[2, 3], s), part.as_bytes(), "s {s}");
+    }
+    for s in [0, 1, usize::MAX] {
+        assert_eq!(calls::show_number(b"", &[], s), 4, "s {s}");
+        assert_eq!(calls::show(b"ABA", &[], s), b"", "s {s}");
+        assert_eq!(calls::show_number(b"ABA", &[], s), 4, "s {s}");
+    }
+}
+
+#[test]
+fn number_5() {
+    for (draft, k, bytes) in [("A", 1, 8), ("ABACDDC", 2, 14), ("ABACDDC", 7, 32)] {
+        let state = fed(draft.as_bytes(), MOST_SECTIONS);
+        let i = draft.len();
+        let short = &mut vec![0; bytes - 1];
+        assert_eq!(calls::folded_record(&state, i, k, short), Err(5), "{draft}");
+        let exact = &mut vec![0; bytes];
+        assert_eq!(
+            calls::folded_record(&state, i, k, exact),
+            Ok(bytes),
+            "{draft}"
+        );
+        assert_eq!(
+            calls::folded_record(&state, i, k, &mut []),
+            Err(5),
+            "{draft}"
+        );
+    }
+}
+
+#[test]
+fn number_6() {
+    let good: [&[u16]; 4] = [&[4], &[1, 4], &[3, 4], &[1, 2, 3, 4]];
+    for ends in good {
+        for s in 1..=ends.len() {
+            assert_eq!(calls::show_number(b"ABCD", ends, s), 0, "{ends:?}");
+            assert!(!calls::show(b"ABCD", ends, s).is_empty(), "{ends:?}");
+        }
+    }
+    let bad: [&[u16]; 9] = [
+        &[0, 4],
+        &[0],
+        &[3],
+        &[5],
+        &[1, 3],
+        &[1, 5],
+        &[2, 2, 4],
+        &[3, 2, 4],
+        &[1, 4, 4],
+    ];
+    for ends in bad {
+        for s in 1..=ends.len() {
+            assert_eq!(calls::show_number(b"ABCD", ends, s), 6, "{ends:?}");
+            assert_eq!(calls::show(b"ABCD", ends, s), b"", "{ends:?}");
+        }
+    }
+    assert_eq!(calls::show_number(b"", &[0], 1), 6);
+}
+
+/// The part shown is the lent letters themselves, whatever bytes they are.
+#[test]
+fn show_hands_back_the_lent_letters() {
+    let letters = [0, 10, 255, 64, 91, 200];
+    let ends = [1, 4, 6];
+    let parts = [(1, 0, 1), (2, 1, 4), (3, 4, 6)];
+    for (s, before, end) in parts {
+        let part = calls::show(&letters, &ends, s);
+        assert_eq!(part.as_ptr_range(), letters[before..end].as_ptr_range());
+    }
+}
+
+/// The number of ends is not bounded by K.
+#[test]
+fn show_of_more_than_eight_sections() {
+    let ends: Vec<u16> = (1..=26).collect();
+    let letters: Vec<u8> = (b'A'..=b'Z').collect();
+    for s in 1..=26 {
+        assert_eq!(calls::show_number(&letters, &ends, s), 0, "s {s}");
+        assert_eq!(calls::show(&letters, &ends, s), &letters[s - 1..s], "s {s}");
+    }
+}
+
+/// Ends are 16-bit numbers, so they reach 65,535 letters and no further.
+#[test]
+fn show_of_more_letters_than_an_end_can_count() {
+    let letters = vec![b'A'; 65_536];
+    assert_eq!(calls::show_number(&letters[1..], &[u16::MAX], 1), 0);
+    assert_eq!(calls::show(&letters[1..], &[u16::MAX], 1).len(), 65_535);
+    for end in [0, u16::MAX] {
+        assert_eq!(calls::show_number(&letters, &[end], 1), 6);
+    }
+}
+
+#[test]
+fn number_7() {
+    let odd = [(2_049, 8), ((1 << 16) + 3, 8), (3, 0), (3, 9), (3, 256 + 8)];
+    for (n, most_sections) in odd {
+        let numbers = numbers_of_all_calls(&stored(n, most_sections));
+        assert_eq!(numbers, [Some(7); 7], "n {n}, K {most_sections}");
+        let mut started = stored(n, most_sections);
+        assert_eq!(calls::start(&mut started, 4), Ok(()));
+        assert_eq!(started, fed(b"", 4), "n {n}, K {most_sections}");
+    }
+    for most_sections in [1, 8] {
+        assert_eq!(numbers_of_all_calls(&stored(3, most_sections)), [None; 7]);
+        let mut full = [None; 7];
+        full[0] = Some(8);
+        let numbers = numbers_of_all_calls(&stored(2_048, most_sections));
+        assert_eq!(numbers, full, "K {most_sections}");
+    }
+}
+
+#[test]
+fn number_8() {
+    let mut state = stored(2_047, MOST_SECTIONS);
+    let list = &mut [0; VISIT_ROOM];
+    assert!(calls::feed(&mut state, b'B', list).is_ok());
+    assert_eq!(calls::feed(&mut state, b'B', list), Err(8));
+    assert_eq!(state.n, 2_048);
+}
+
+#[test]
+fn number_9() {
+    let state = fed(b"ABACDDC", MOST_SECTIONS);
+    for k in 1..=MOST_SECTIONS {
+        let expected = if [1, 3, 8].contains(&k) {
+            Some(9)
+        } else {
+            None
+        };
+        let split = calls::split(&state, 7, k, &mut vec![0; k]).err();
+        assert_eq!(split, expected, "k {k}");
+        let record = calls::folded_record(&state, 7, k, &mut [0; 99]).err();
+        assert_eq!(record, expected, "k {k}");
+        let on_prefix_0 = calls::split(&state, 0, k, &mut vec![0; k]);
+        assert_eq!(on_prefix_0, Err(9), "k {k}");
+        let on_prefix_0 = calls::folded_record(&state, 0, k, &mut [0; 99]);
+        assert_eq!(on_prefix_0, Err(9), "k {k}");
+    }
+}
+
+/// Example 3 of document 004: the endings have centres 10, 17, 18 and, empty, 19.
+#[test]
+fn number_10() {
+    let state = fed(b"AABACABAA", MOST_SECTIONS);
+    for centre in 1..=19 {
+        let expected = match centre {
+            10 => Ok(17),
+            17 => Ok(18),
+            18 => Ok(19),
+            _ => Err(10),
+        };
+        assert_eq!(calls::next_centre(&state, centre), expected, "{centre}");
+    }
+    assert_eq!(calls::next_centre(&fed(b"", 8), 1), Err(10));
+}

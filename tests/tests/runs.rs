@@ -1,0 +1,228 @@
+//! Runs of calls beside the plain book: every answer is the one read from the book's
+//! K and letters, and a start or a feed is accepted exactly when the book takes it.
+
+use comparison::book::Book;
+use comparison::calls::{self, Answer, State, Taken};
+use comparison::samples::Generator;
+use comparison::{plain, MOST_PICKS, VISIT_ROOM};
+
+/// A call of a run with its arguments.
+#[derive(Debug)]
+enum Call {
+    Start(usize),
+    Feed(u8, usize),
+    Split(usize, usize, usize),
+    LongestCentre,
+}
+
+/// A call with arguments inside and outside their bounds; starts are few, so that the
+/// draft grows.
+fn some_call(generator: &mut Generator) -> Call {
+    match generator.below(20) {
+        0 => Call::Start(generator.below(11)),
+        1..=11 => Call::Feed(some_pick(generator), 17 + generator.below(6)),
+        12..=16 => Call::Split(
+            generator.below(12),
+            generator.below(10),
+            generator.below(10),
+        ),
+        _ => Call::LongestCentre,
+    }
+}
+
+/// A, B or C mostly, and now and then a byte beside the letters.
+fn some_pick(generator: &mut Generator) -> u8 {
+    let picks = b"AAAAABBBBBC@[";
+    picks[generator.below(picks.len())]
+}
+
+/// The feed's answer and the front of the list, from the book after the feed.
+fn feed_by_book(book: &Book, taken: bool, pick: u8, entries: usize) -> (Answer<Taken>, Vec<u16>) {
+    if !taken {
+        let not_a_pick = !(65..=90).contains(&pick);
+        let number = match (not_a_pick, entries < 19) {
+            (true, _) => 2,
+            (false, true) => 3,
+            (false, false) => 8,
+        };
+        return (Err(number), Vec::new());
+    }
+    let visits = plain::visits(&book.row);
+    let answer = Taken {
+        mask: plain::mask(&book.row, book.most_sections),
+        visits: visits.len(),
+    };
+    (Ok(answer), visits.iter().map(|&l| l as u16).collect())
+}
+
+/// The split's answer and the front of the list, from the book.
+fn split_by_book(book: &Book, i: usize, k: usize, entries: usize) -> (Answer<usize>, Vec<u16>) {
+    if k == 0 || k > book.most_sections {
+        return (Err(1), Vec::new());
+    }
+    if entries < k {
+        return (Err(3), Vec::new());
+    }
+    if i > book.row.len() {
+        return (Err(4), Vec::new());
+    }
+    match plain::named_split(&book.row[..i], k) {
+        Some(ends) => (Ok(k), ends.iter().map(|&end| end as u16).collect()),
+        None => (Err(9), Vec::new()),
+    }
+}
+
+/// A list of so many entries, each holding 500 but for those of the front.
+fn list_with(front: &[u16], entries: usize) -> Vec<u16> {
+    let mut list = vec![500; entries];
+    list[..front.len()].copy_from_slice(front);
+    list
+}
+
+/// Makes one call and asserts that its answer and its list are those of the book.
+fn assert_call(state: &mut State, book: &mut Book, call: &Call) {
+    match *call {
+        Call::Start(most_sections) => {
+            let answer = calls::start(state, most_sections);
+            let taken = book.start(most_sections);
+            assert_eq!(answer, if taken { Ok(()) } else { Err(1) }, "{book:?}");
+        }
+        Call::Feed(pick, entries) => {
+            let mut list = list_with(&[], entries);
+            let answer = calls::feed(state, pick, &mut list);
+            let taken = book.feed(pick, entries);
+            let (expected, front) = feed_by_book(book, taken, pick, entries);
+            assert_eq!(answer, expected, "{book:?} {call:?}");
+            assert_eq!(list, list_with(&front, entries), "{book:?} {call:?}");
+        }
+        Call::Split(i, k, entries) => {
+            let mut list = list_with(&[], entries);
+            let answer = calls::split(state, i, k, &mut list);
+            let (expected, front) = split_by_book(book, i, k, entries);
+            assert_eq!(answer, expected, "{book:?} {call:?}");
+            assert_eq!(list, list_with(&front, entries), "{book:?} {call:?}");
+        }
+        Call::LongestCentre => {
+            let expected = Ok(plain::longest_centre(&book.row));
+            assert_eq!(calls::longest_centre(state), expected, "{book:?}");
+        }
+    }
+}
+
+/// The first call is a start with K from 1 to 8, on any stored state whatever.
+fn first_state(generator: &mut Generator) -> State {
+    State {
+        n: generator.below(5_000),
+        most_sections: generator.below(300),
+        letters: [generator.below(256) as u8; MOST_PICKS],
+    }
+}
+
+#[test]
+fn every_answer_of_a_run_is_the_books() {
+    let mut generator = Generator(3);
+    for _ in 0..400 {
+        let mut state = first_state(&mut generator);
+        let mut book = Book::default();
+        let most_sections = 1 + generator.below(8);
+        assert_call(&mut state, &mut book, &Call::Start(most_sections));
+        for _ in 0..24 {
+            let call = some_call(&mut generator);
+            assert_call(&mut state, &mut book, &call);
+            assert_eq!(state.most_sections, book.most_sections, "{call:?}");
+            assert_eq!(state.letters[..state.n], book.row, "{call:?}");
+        }
+    }
+}
+
+/// Calls that only read the state alter no answer: the same run, with such calls
+/// between, leaves the same state.
+#[test]
+fn reading_calls_leave_the_run_as_it_is() {
+    let mut generator = Generator(5);
+    for _ in 0..100 {
+        let mut state = State::empty(3);
+        let mut book = Book::default();
+        assert_call(&mut state, &mut book, &Call::Start(3));
+        for _ in 0..16 {
+            let before = state.clone();
+            let any = generator.below(30);
+            let mask = calls::mask_of_prefix(&state, any);
+            assert_eq!(mask.is_ok(), any <= book.row.len(), "{book:?} {any}");
+            let radius = calls::radius_at(&state, any);
+            assert_eq!(
+                radius.is_ok(),
+                (1..=2 * state.n + 1).contains(&any),
+                "{book:?} {any}"
+            );
+            let next = calls::next_centre(&state, any);
+            assert_eq!(
+                next.ok(),
+                plain::next_centre(&book.row, any),
+                "{book:?} {any}"
+            );
+            assert!(state == before);
+            let call = some_call(&mut generator);
+            assert_call(&mut state, &mut book, &call);
+        }
+    }
+}
+
+/// Two drafts fed in turn, with different K, give what each gives alone.
+#[test]
+fn two_states_in_turn() {
+    let mut generator = Generator(11);
+    for _ in 0..50 {
+        let mut states = [State::empty(8), State::empty(8)];
+        let mut books = [Book::default(), Book::default()];
+        for (at, most_sections) in [(0, 8), (1, 1 + generator.below(8))] {
+            let call = Call::Start(most_sections);
+            assert_call(&mut states[at], &mut books[at], &call);
+        }
+        for _ in 0..20 {
+            let at = generator.below(2);
+            let call = some_call(&mut generator);
+            assert_call(&mut states[at], &mut books[at], &call);
+        }
+    }
+}
+
+/// The book takes pick 2,048 and no more, lists of 19 entries and no shorter, A to Z
+/// and no other byte, K from 1 to 8 and no other.
+#[test]
+fn what_the_book_takes() {
+    let mut book = Book::default();
+    for most_sections in [0, 9] {
+        assert!(!book.start(most_sections));
+        assert_eq!(book, Book::default());
+    }
+    assert!(book.start(1) && book.start(8));
+    assert!(!book.feed(64, 19) && !book.feed(91, 19) && !book.feed(65, 18));
+    assert_eq!(book.row, b"");
+    assert!(book.feed(65, 19) && book.feed(90, 20));
+    assert_eq!(book.row, b"AZ");
+    assert!((2..MOST_PICKS).all(|_| book.feed(b'M', VISIT_ROOM)));
+    assert!(!book.feed(b'M', VISIT_ROOM));
+    assert_eq!(book.row.len(), 2_048);
+    assert!(!book.start(0) && book.row.len() == 2_048);
+    assert!(book.start(5));
+    assert_eq!((book.most_sections, book.row.len()), (5, 0));
+}
+
+/// "No accepted feed makes that number smaller": the centre of the longest ending.
+#[test]
+fn the_longest_endings_centre_never_moves_back() {
+    let mut generator = Generator(9);
+    for letters in [1, 2, 3, 26] {
+        let draft = generator.draft(letters, 600);
+        let mut state = State::empty(8);
+        let mut before = calls::longest_centre(&state).unwrap();
+        assert_eq!(before, 1);
+        for &pick in &draft {
+            assert!(calls::feed(&mut state, pick, &mut [0; VISIT_ROOM]).is_ok());
+            let centre = calls::longest_centre(&state).unwrap();
+            assert!(centre >= before, "{}", String::from_utf8_lossy(&draft));
+            before = centre;
+        }
+    }
+}

@@ -1,0 +1,24 @@
+//! One question put to both paths.
+
+use std::fmt::Debug;
+
+use comparison::fast::Fast;
+use comparison::MOST_SECTIONS;
+
+/// Asserts that the plain path, given the draft, and the fast path, given its
+/// tables for K = 8 and its length, both give the expected answer.
+pub fn both<T: PartialEq + Debug>(
+    draft: &str,
+    expected: T,
+    plain: impl Fn(&[u8]) -> T,
+    fast: impl Fn(&Fast, usize) -> T,
+) {
+    let letters = draft.as_bytes();
+    assert_eq!(plain(letters), expected, "plain path, draft {draft}");
+    let tables = Fast::new(letters, MOST_SECTIONS);
+    assert_eq!(
+        fast(&tables, letters.len()),
+        expected,
+        "fast path, draft {draft}"
+    );
+}
