@@ -7,7 +7,7 @@ use native.Mathlib.Nat.{pow-succ', mul-le-mul-right, div-eq-of-lt, mod-eq-of-lt}
 use native.Mathlib.Decide.{ℕ-discrete}
 use lib.Bits.{bitOr, or-step, or-comm, or-self, or-block}
 use lib.Pow.{low, high, field, mod-mod-pow, pow-mono}
-use Rattle.words.specs.Definitions.{bit, Join}
+use Rattle.words.specs.Definitions.{bit, Semilattice}
 use Rattle.words.specs.Computed.{bits, joinAll, raised}
 
 -- Union is associative, commutative and idempotent
@@ -29,8 +29,8 @@ or-assoc (suc x) a b c h =
     let e : bitOr (bitOr a b / 2) (c / 2) ≡ bitOr (a / 2) (bitOr b c / 2) = rw (or-half a b, or-half b c) h' in
     omega (arith, or-step (bitOr a b) c, or-step a (bitOr b c), or-odd a b, or-odd b c)
 
-pub union-join : Join bitOr
-union-join = record { assoc = λ a b c. or-assoc (a + b + c) a b c (omega arith); comm = or-comm; idem = or-self }
+pub union-semilattice : Semilattice bitOr
+union-semilattice = record { assoc = λ a b c. or-assoc (a + b + c) a b c (omega arith); comm = or-comm; idem = or-self }
 
 -- The number with bits f 0 to f (K - 1)
 

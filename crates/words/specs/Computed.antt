@@ -119,19 +119,19 @@ unfolding rowWord
 mask K w n = rowWord K w n / 2
 
 -- the values of the places i, i + p, .., i + c * p joined
-unfoldable pub many : (ℕ → ℕ → ℕ) → (ℕ → ℕ) → ℕ → ℕ → ℕ → ℕ
-many op r i p zero = r i
-many op r i p (suc c) = op (many op r i p c) (r (i + suc c * p))
+unfoldable pub joinSteps : (ℕ → ℕ → ℕ) → (ℕ → ℕ) → ℕ → ℕ → ℕ → ℕ
+joinSteps op r i p zero = r i
+joinSteps op r i p (suc c) = op (joinSteps op r i p c) (r (i + suc c * p))
 
 -- picks i + 1 to j, with least period p and next shorter leading length d: the values of the places i, i + p, i + 2p and so on to j - d - p joined
-unfoldable pub over : (ℕ → ℕ → ℕ) → (ℕ → ℕ) → (ℕ → ℕ) → ℕ → ℕ → ℕ
-unfolding many leastPeriod
-over op r w i j = let p : ℕ = leastPeriod w j (j - i) in many op r i p (laterPlaces (j - i) p)
+unfoldable pub gatherOver : (ℕ → ℕ → ℕ) → (ℕ → ℕ) → (ℕ → ℕ) → ℕ → ℕ → ℕ
+unfolding joinSteps leastPeriod
+gatherOver op r w i j = let p : ℕ = leastPeriod w j (j - i) in joinSteps op r i p (laterPlaces (j - i) p)
 
 -- the gathered value of place i among n picks: over the last leading ending that starts there
 unfoldable pub gathered : (ℕ → ℕ → ℕ) → (ℕ → ℕ) → (ℕ → ℕ) → ℕ → ℕ → ℕ
-unfolding over largest leadsFrom?
-gathered op r w n i = over op r w i (largest (leadsFrom? w i) (suc n))
+unfolding gatherOver largest leadsFrom?
+gathered op r w n i = gatherOver op r w i (largest (leadsFrom? w i) (suc n))
 
 -- the gathered word
 unfoldable pub gatheredWord : ℕ → (ℕ → ℕ) → ℕ → ℕ → ℕ
@@ -144,6 +144,14 @@ unfolding cubic?
 mended op r n len p old = elim (cubic? len p) [
   | yes h ↦ op old (r (n - nextLeading len p - p))
   | no h ↦ r (n - len)
+]
+
+-- the value gathered at place i of prefix n, from the one before this pick: mended where a leading ending starts there, else kept
+unfoldable pub updated : (ℕ → ℕ → ℕ) → (ℕ → ℕ) → (ℕ → ℕ) → ℕ → ℕ → ℕ → ℕ
+unfolding leading? leastPeriod mended
+updated op r w n i old = elim (leading? w n (n - i)) [
+  | yes h ↦ mended op r n (n - i) (leastPeriod w n (n - i)) old
+  | no h ↦ old
 ]
 
 -- all values g x of a list joined, from a on

@@ -189,8 +189,8 @@ pub record Named (w : ℕ → ℕ) (n k : ℕ) (ends : List ℕ) : Type 0 where
 abbrev pub bit : ℕ → ℕ → ℕ
 bit x k = x / 2 ^ k % 2
 
--- an operation by which row values are gathered: union of words is one
-pub record Join (op : ℕ → ℕ → ℕ) : Type 0 where
+-- an operation by which row values can be gathered: union of words is one
+pub record Semilattice (op : ℕ → ℕ → ℕ) : Type 0 where
   pub assoc : (a b c : ℕ) → op (op a b) c ≡ op a (op b c)
   pub comm : (a b : ℕ) → op a b ≡ op b a
   pub idem : (a : ℕ) → op a a ≡ a

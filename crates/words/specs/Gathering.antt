@@ -6,16 +6,16 @@ use Prim.Native.Nat.{ℕ, zero, suc, _+_, _-_, _*_, _≤_, _<_}
 use native.Mathlib.Omega.{arith}
 use native.Mathlib.Nat.{mul-le-mul-right}
 use native.Mathlib.Decide.{ℕ-discrete}
-use Rattle.words.specs.Definitions.{Join, Ending, LeastPeriod, Leading, laterPlaces}
+use Rattle.words.specs.Definitions.{Semilattice, Ending, LeastPeriod, Leading, laterPlaces}
 use Rattle.words.specs.Search.{passing, passing-is}
 use Rattle.words.specs.Mirror.{ending?}
-use Rattle.words.specs.Computed.{leading?, leastPeriod, many, gathered, joinAll, visits}
+use Rattle.words.specs.Computed.{leading?, leastPeriod, joinSteps, gathered, joinAll, visits}
 use Rattle.words.specs.Laws.{least-period, longest-is}
 use Rattle.words.specs.Lengths.{places-end}
 use Rattle.words.specs.Series.{longest-leads, period-fits, series-ending, ending-series, Series, in-series}
 use Rattle.words.specs.Proposition3.{gathered-series}
 
-module _ {op : ℕ → ℕ → ℕ} (J : Join op) where
+module _ {op : ℕ → ℕ → ℕ} (J : Semilattice op) where
   -- b holds a
   abbrev pub Le : ℕ → ℕ → Type 0
   Le a b = op a b ≡ b
@@ -38,22 +38,22 @@ module _ {op : ℕ → ℕ → ℕ} (J : Join op) where
   le-antisym : (a b : ℕ) → Le a b → Le b a → a ≡ b
   le-antisym a b p q = sym q ∙ J .comm b a ∙ p
 
-  many-has : (r : ℕ → ℕ) (i p c x : ℕ) → x ≤ c → Le (r (i + x * p)) (many op r i p c)
-  unfolding many
-  many-has r i p zero x h = let z : i + x * p ≡ i = go x h in rw z (le-self (r i))
+  steps-has : (r : ℕ → ℕ) (i p c x : ℕ) → x ≤ c → Le (r (i + x * p)) (joinSteps op r i p c)
+  unfolding joinSteps
+  steps-has r i p zero x h = let z : i + x * p ≡ i = go x h in rw z (le-self (r i))
     where
       go : (x : ℕ) → x ≤ 0 → i + x * p ≡ i
       go zero h = omega arith
       go (suc x) h = absurd (omega arith)
-  many-has r i p (suc c) x h = elim (ℕ-discrete x (suc c)) [
-    | yes y ↦ rw y (le-right (many op r i p c) (r (i + suc c * p)))
-    | no y ↦ le-trans _ _ _ (many-has r i p c x (omega arith)) (le-left (many op r i p c) (r (i + suc c * p)))
+  steps-has r i p (suc c) x h = elim (ℕ-discrete x (suc c)) [
+    | yes y ↦ rw y (le-right (joinSteps op r i p c) (r (i + suc c * p)))
+    | no y ↦ le-trans _ _ _ (steps-has r i p c x (omega arith)) (le-left (joinSteps op r i p c) (r (i + suc c * p)))
   ]
 
-  many-within : (r : ℕ → ℕ) (i p z c : ℕ) → ((x : ℕ) → x ≤ c → Le (r (i + x * p)) z) → Le (many op r i p c) z
-  unfolding many
-  many-within r i p z zero f = let e : i + 0 * p ≡ i = omega arith in rw e at (f 0 (omega arith))
-  many-within r i p z (suc c) f = le-both _ _ z (many-within r i p z c (λ x h. f x (omega arith))) (f (suc c) (omega arith))
+  steps-within : (r : ℕ → ℕ) (i p z c : ℕ) → ((x : ℕ) → x ≤ c → Le (r (i + x * p)) z) → Le (joinSteps op r i p c) z
+  unfolding joinSteps
+  steps-within r i p z zero f = let e : i + 0 * p ≡ i = omega arith in rw e at (f 0 (omega arith))
+  steps-within r i p z (suc c) f = le-both _ _ z (steps-within r i p z c (λ x h. f x (omega arith))) (f (suc c) (omega arith))
 
   all-from : (g : ℕ → ℕ) (a : ℕ) (s : List ℕ) → Le a (joinAll op g a s)
   unfolding joinAll
@@ -80,7 +80,7 @@ module _ {op : ℕ → ℕ → ℕ} (J : Join op) where
 
     -- a leading ending gathers the values of its series
     gathered-at : (len p : ℕ) → 0 < len → Leading w (suc m) len → LeastPeriod w (suc m) len p
-        → gathered op r w (suc m) (suc m - len) ≡ many op r (suc m - len) p (laterPlaces len p)
+        → gathered op r w (suc m) (suc m - len) ≡ joinSteps op r (suc m - len) p (laterPlaces len p)
     gathered-at len p h l a = gathered-series op r w m (suc m - len) len p (omega (arith, l .is .fits)) h l a
 
     start-has : (k : ℕ) → 0 < k → Ending w (suc m) k → Le (r (suc m - k)) starts
@@ -94,7 +94,7 @@ module _ {op : ℕ → ℕ → ℕ} (J : Join op) where
 
     -- what a visit gathers stands at the starts of endings
     visit-within : (len : ℕ) → 0 < len → Leading w (suc m) len → Le (gathered op r w (suc m) (suc m - len)) starts
-    visit-within len h l = rw (gathered-at len p h l a) (many-within r (suc m - len) p starts (laterPlaces len p) place)
+    visit-within len h l = rw (gathered-at len p h l a) (steps-within r (suc m - len) p starts (laterPlaces len p) place)
       where
         p : ℕ
         p = leastPeriod w (suc m) len
@@ -122,7 +122,7 @@ module _ {op : ℕ → ℕ → ℕ} (J : Join op) where
             let y = ending-series (z .leading) (z .least) pos k f (z .past) (z .longer) in
             let j : suc m - z .len + y .0 * z .p ≡ suc m - k = omega (arith, y .2, z .leading .is .fits) in
             le-trans _ _ _
-            (rw j at (many-has r (suc m - z .len) (z .p) (laterPlaces (z .len) (z .p)) (y .0) (y .1)))
+            (rw j at (steps-has r (suc m - z .len) (z .p) (laterPlaces (z .len) (z .p)) (y .0) (y .1)))
             (rw (gathered-at (z .len) (z .p) pos (z .leading) (z .least)) at (visit-has (z .len) pos (z .leading)))
 
     -- THE GATHERING LAW: the values gathered at the visited places, joined, are the values at the starts of all non-empty endings, joined

@@ -70,7 +70,7 @@ module _ (w : ℕ → ℕ) (n : ℕ) where
     falling = h .falling;
   }
 
--- the split named: Splits.split-law
+-- The split named: Splits.split-law
 
 -- Row words and masks
 
@@ -106,7 +106,7 @@ unfolding rowWord bits
 row-empty zero w = omega (arith, splits-one w 0 0 no-picks)
 row-empty (suc K) w = omega (arith, row-empty K w, splits-zero w 0 (suc K) (λ ends h. omega (arith, cut h .last .some)))
 
--- The stretch by which a place gathers
+-- Gathered values: Proposition3.gathered-is; here the stretch by which a place gathers
 
 -- at its own end a place has the empty stretch, which leads
 pub leads-own : (w : ℕ → ℕ) (i : ℕ) → LeadsFrom w i i

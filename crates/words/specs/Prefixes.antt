@@ -9,11 +9,11 @@ use lib.Bits.{bitOr}
 use Rattle.words.specs.Definitions.{Ending, Period, LeastPeriod, Leading, LastLead, laterPlaces}
 use Rattle.words.specs.Search.{largest, largest-eq, passing-as}
 use Rattle.words.specs.Mirror.{mirror, ending, ending?}
-use Rattle.words.specs.Computed.{leading?, leadsFrom?, leastPeriod, visits, cutLast, splitOf, splits, rowWord, many, over, gathered, gatheredWord}
+use Rattle.words.specs.Computed.{leading?, leadsFrom?, leastPeriod, visits, cutLast, splitOf, splits, rowWord, joinSteps, gatherOver, gathered, gatheredWord}
 use Rattle.words.specs.Laws.{least-period, last-lead}
 use Rattle.words.specs.Lengths.{places-end}
 use Rattle.words.specs.Bits.{bits-as}
-use Rattle.words.specs.Proposition3.{over-is, over-own}
+use Rattle.words.specs.Proposition3.{gather-over-is, gather-over-own}
 use Rattle.words.specs.Periods.{whole-period}
 
 -- the first n letters of w and v are the same
@@ -80,30 +80,30 @@ module _ {w v : ℕ → ℕ} {n : ℕ} (f : Agree w v n) where
   }
 
   module _ (op : ℕ → ℕ → ℕ) (r s : ℕ → ℕ) (g : (i : ℕ) → i ≤ n → r i ≡ s i) where
-    many-as : (i p c : ℕ) → i + c * p ≤ n → many op r i p c ≡ many op s i p c
-    unfolding many
-    many-as i p zero h = g i (omega arith)
-    many-as i p (suc c) h = ap₂ op (many-as i p c (omega arith)) (g (i + suc c * p) h)
+    steps-as : (i p c : ℕ) → i + c * p ≤ n → joinSteps op r i p c ≡ joinSteps op s i p c
+    unfolding joinSteps
+    steps-as i p zero h = g i (omega arith)
+    steps-as i p (suc c) h = ap₂ op (steps-as i p c (omega arith)) (g (i + suc c * p) h)
 
-    over-as : (i j : ℕ) → i ≤ j → j ≤ n → over op r w i j ≡ over op s v i j
-    over-as i j h l = elim (decLt i j) [
+    gather-over-as : (i j : ℕ) → i ≤ j → j ≤ n → gatherOver op r w i j ≡ gatherOver op s v i j
+    gather-over-as i j h l = elim (decLt i j) [
       | yes y ↦
           let len : ℕ = j - i in
           let p : ℕ = leastPeriod w j len in
           let a : LeastPeriod w j len p = least-period {w = w} {n = j} len (omega arith) (omega arith) in
           let fits : p ≤ len = a .least len (whole-period (omega arith) (omega arith)) in
-          over-is op r w i j len p (omega arith) (omega arith) a
-          ∙ many-as i p (laterPlaces len p) (omega (arith, places-end len p (a .is .pos) fits))
-          ∙ sym (over-is op s v i j len p (omega arith) (omega arith) (least-as f l a))
-      | no y ↦ let z : j ≡ i = omega arith in rw z (over-own op r w i ∙ g i (omega arith) ∙ sym (over-own op s v i))
+          gather-over-is op r w i j len p (omega arith) (omega arith) a
+          ∙ steps-as i p (laterPlaces len p) (omega (arith, places-end len p (a .is .pos) fits))
+          ∙ sym (gather-over-is op s v i j len p (omega arith) (omega arith) (least-as f l a))
+      | no y ↦ let z : j ≡ i = omega arith in rw z (gather-over-own op r w i ∙ g i (omega arith) ∙ sym (gather-over-own op s v i))
     ]
 
     pub gathered-as : (m i : ℕ) → i ≤ m → m ≤ n → gathered op r w m i ≡ gathered op s v m i
     unfolding gathered
     gathered-as m i h l =
         let a : LastLead w m i (largest (leadsFrom? w i) (suc m)) = last-lead w m i h in
-        over-as i (largest (leadsFrom? w i) (suc m)) (a .is .from) (omega (arith, a .below))
-        ∙ ap (over op s v i) (sym (largest-eq (leadsFrom? v i) (last-as l a)))
+        gather-over-as i (largest (leadsFrom? w i) (suc m)) (a .is .from) (omega (arith, a .below))
+        ∙ ap (gatherOver op s v i) (sym (largest-eq (leadsFrom? v i) (last-as l a)))
 
   pub gathered-word-as : (K m i : ℕ) → i ≤ m → m ≤ n → gatheredWord K w m i ≡ gatheredWord K v m i
   unfolding gatheredWord

@@ -5,16 +5,16 @@ use Prim.Native.Nat.{ℕ, zero, suc, _-_, max, _≤_, _<_}
 use native.Mathlib.Omega.{arith}
 use native.Mathlib.Nat.{le-antisymm}
 use lib.Bits.{bitOr}
-use Rattle.words.specs.Definitions.{Ending, Join}
+use Rattle.words.specs.Definitions.{Ending, Semilattice}
 use Rattle.words.specs.Search.{passing, passing-is}
 use Rattle.words.specs.Mirror.{ending?, section-ending, ending-section}
 use Rattle.words.specs.Computed.{splitOf, splits, rowWord, gatheredWord, joinAll, raised, visits}
-use Rattle.words.specs.Splits.{Splitting, given, lacking, split-law, split-none, cut, uncut, splits-one, splits-zero, splits-small}
+use Rattle.words.specs.Splits.{Splitting, given, lacking, split-law, split-none, cut, split-before, uncut, splits-one, splits-zero, splits-small}
 use Rattle.words.specs.Gathering.{gathering, all-has, all-within}
-use Rattle.words.specs.Bits.{union-join, Bits, up, bits-as, joined-bits, joined-small, raised-bits}
+use Rattle.words.specs.Bits.{union-semilattice, Bits, up, bits-as, joined-bits, joined-small, raised-bits}
 
-max-join : Join max
-max-join = record { assoc = λ a b c. omega arith; comm = λ a b. omega arith; idem = λ a. omega arith }
+max-semilattice : Semilattice max
+max-semilattice = record { assoc = λ a b c. omega arith; comm = λ a b. omega arith; idem = λ a. omega arith }
 
 -- prefix n with one of its non-empty endings cut off
 module _ (w : ℕ → ℕ) (n k : ℕ) where
@@ -34,11 +34,11 @@ module _ (w : ℕ → ℕ) (n k : ℕ) where
 
   before-has : (len : ℕ) → 0 < len → Ending w n len → splits w (n - len) k ≤ before
   unfolding before
-  before-has len p f = omega (arith, all-has max-join (λ len. splits w (n - len) k) 0 _ len (passing-is (ending? w n) n .all len p (f .fits) f))
+  before-has len p f = omega (arith, all-has max-semilattice (λ len. splits w (n - len) k) 0 _ len (passing-is (ending? w n) n .all len p (f .fits) f))
 
   before-within : (z : ℕ) → ((len : ℕ) → 0 < len → Ending w n len → splits w (n - len) k ≤ z) → before ≤ z
   unfolding before
-  before-within z f = omega (arith, all-within max-join (λ len. splits w (n - len) k) z 0 _ (omega arith) one)
+  before-within z f = omega (arith, all-within max-semilattice (λ len. splits w (n - len) k) z 0 _ (omega arith) one)
     where
       one : (len : ℕ) → List·Memᴰ len (passing (ending? w n) n) → max (splits w (n - len) k) z ≡ z
       one len v = let h = passing-is (ending? w n) n .only len v in omega (arith, f len (h .0) (h .2))
@@ -52,7 +52,7 @@ module _ (w : ℕ → ℕ) (n k : ℕ) where
           let c = cut (h .is) in
           let len : ℕ = n - c .at in
           let z : n - len ≡ c .at = omega (arith, c .last .some) in
-          let one : splits w (n - len) k ≡ 1 = rw z (splits-one w (c .at) k (c .split)) in
+          let one : splits w (n - len) k ≡ 1 = rw z (splits-one w (c .at) k (split-before c)) in
           let b = before-has len (omega (arith, c .last .some)) (section-ending (omega (arith, c .last .some)) (c .last)) in
           omega (arith, splits-small w n (suc k))
 
@@ -70,4 +70,4 @@ module _ (w : ℕ → ℕ) (m : ℕ) where
       let small : (len : ℕ) → Bits (splits w (suc m - len)) = λ len k. splits-small w (suc m - len) k in
       bits-as (suc K) (λ k h. splits-row k)
       ∙ sym (raised-bits (joined-small (λ len. splits w (suc m - len)) small (suc K) s) K)
-      ∙ ap (raised K) (sym (gathering union-join (rowWord K w) w m 0 ∙ joined-bits (λ len. splits w (suc m - len)) small (suc K) s))
+      ∙ ap (raised K) (sym (gathering union-semilattice (rowWord K w) w m 0 ∙ joined-bits (λ len. splits w (suc m - len)) small (suc K) s))

@@ -25,35 +25,31 @@ back-after : {w : ℕ → ℕ} {m a : ℕ} {s : List ℕ} (n : ℕ) → Sections
 back-after n done = refl
 back-after n (next {a = a} {e = e} f h) = ap (λ l. l ++ (e - a) ∷ []) (back-after n h)
 
-record Last (w : ℕ → ℕ) (n a : ℕ) (t : List ℕ) : Type 0 where
-  at : ℕ
-  rest : List ℕ
-  is : t ≡ rest ++ n ∷ []
-  before : Sections w at a rest
-  last : Section w at n
-
-last-section : {w : ℕ → ℕ} {n a e : ℕ} (t : List ℕ) → Section w a e → Sections w n e t → Last w n a (e ∷ t)
-last-section {a = a} [] f done = record { at = a; rest = []; is = refl; before = done; last = f }
-last-section {e = e} (b ∷ t) f (next g h) = let r = last-section t g h in
-    record { at = r .at; rest = e ∷ r .rest; is = ap (λ l. e ∷ l) (r .is); before = next f (r .before); last = r .last }
-
--- a split into k + 1 sections is a split of a shorter prefix into k, and a section
-pub record Cut (w : ℕ → ℕ) (n k : ℕ) (t : List ℕ) : Type 0 where
+-- sections with these ends but the last, which ends with n, and the last one
+pub record Cut (w : ℕ → ℕ) (n a k : ℕ) (t : List ℕ) : Type 0 where
   pub at : ℕ
   pub rest : List ℕ
   pub is : t ≡ rest ++ n ∷ []
-  pub split : Split w at k rest
+  pub before : Sections w at a rest
+  pub count : length rest ≡ k
   pub last : Section w at n
 
-pub cut : {w : ℕ → ℕ} {n k : ℕ} {t : List ℕ} → Split w n (suc k) t → Cut w n k t
+cut-sections : {w : ℕ → ℕ} {n a e : ℕ} (t : List ℕ) → Section w a e → Sections w n e t → Cut w n a (length t) (e ∷ t)
+cut-sections {a = a} [] f done = record { at = a; rest = []; is = refl; before = done; count = refl; last = f }
+cut-sections {e = e} (b ∷ t) f (next g h) =
+    let r = cut-sections t g h in
+    record { at = r .at; rest = e ∷ r .rest; is = ap (λ l. e ∷ l) (r .is); before = next f (r .before); count = ap suc (r .count); last = r .last }
+
+-- a split into k + 1 sections is a split of a shorter prefix into k, and a section
+pub cut : {w : ℕ → ℕ} {n k : ℕ} {t : List ℕ} → Split w n (suc k) t → Cut w n 0 k t
 cut {w} {n} {k} {t} h = go t (h .is) (h .count)
   where
-    go : (t : List ℕ) → Sections w n 0 t → length t ≡ suc k → Cut w n k t
+    go : (t : List ℕ) → Sections w n 0 t → length t ≡ suc k → Cut w n 0 k t
     go [] s c = absurd (omega arith)
-    go (e ∷ t) (next f s) c =
-        let r = last-section t f s in
-        let c : length (r .rest) ≡ k = omega (arith, ap length (r .is), length-append (r .rest) (n ∷ [])) in
-        record { at = r .at; rest = r .rest; is = r .is; split = record { is = r .before; count = c }; last = r .last }
+    go (e ∷ t) (next f s) c = let z : length t ≡ k = omega arith in rw z at (cut-sections t f s)
+
+pub split-before : {w : ℕ → ℕ} {n k : ℕ} {t : List ℕ} (c : Cut w n 0 k t) → Split w (c .at) k (c .rest)
+split-before c = record { is = c .before; count = c .count }
 
 pub uncut : {w : ℕ → ℕ} {a n k : ℕ} {s : List ℕ} → Split w a k s → Section w a n → Split w n (suc k) (s ++ n ∷ [])
 uncut {n = n} {s = s} h l = record { is = sections-after (h .is) l; count = length-append s (n ∷ []) ∙ omega (arith, h .count) }
@@ -79,7 +75,7 @@ pub data Splitting (w : ℕ → ℕ) (n k : ℕ) (o : Option (List ℕ)) : Type 
 module _ (w : ℕ → ℕ) (n k : ℕ) (rest : ℕ → Option (List ℕ)) (law : (a : ℕ) → Splitting w a k (rest a)) where
   -- no split has a last section of more than m picks
   Top : ℕ → Type 0
-  Top m = (t : List ℕ) (c : Cut w n k t) → n ≤ c .at + m
+  Top m = (t : List ℕ) (c : Cut w n 0 k t) → n ≤ c .at + m
 
   -- a last section of m + 1 picks is ruled out
   lower : (m : ℕ) → suc m ≤ n → Top (suc m) → ((s : List ℕ) → Section w (n - suc m) n → Split w (n - suc m) k s → ⊥) → Top m
@@ -88,19 +84,19 @@ module _ (w : ℕ → ℕ) (n k : ℕ) (rest : ℕ → Option (List ℕ)) (law :
     | yes x ↦ x
     | no x ↦
         let z : c .at ≡ n - suc m = omega (arith, top t c) in
-        absurd (f (c .rest) (rw z at (c .last)) (rw z at (c .split)))
+        absurd (f (c .rest) (rw z at (c .last)) (rw z at (split-before c)))
   ]
 
   -- the longest last section whose rest splits, and the split named of the rest
-  named-after : (a : ℕ) (s : List ℕ) → Section w a n → Named w a k s → ((t : List ℕ) (c : Cut w n k t) → a ≤ c .at) → Named w n (suc k) (s ++ n ∷ [])
+  named-after : (a : ℕ) (s : List ℕ) → Section w a n → Named w a k s → ((t : List ℕ) (c : Cut w n 0 k t) → a ≤ c .at) → Named w n (suc k) (s ++ n ∷ [])
   named-after a s l h top = record { is = uncut (h .is) l; first = λ t b e. other t e (cut b) }
     where
-      other : (t : List ℕ) → t ≢ s ++ n ∷ [] → Cut w n k t → Before (s ++ n ∷ []) t
-      other t e c = rw (c .is, back-after n (c .split .is), back-after n (h .is .is)) (elim (decLt a (c .at)) [
+      other : (t : List ℕ) → t ≢ s ++ n ∷ [] → Cut w n 0 k t → Before (s ++ n ∷ []) t
+      other t e c = rw (c .is, back-after n (c .before), back-after n (h .is .is)) (elim (decLt a (c .at)) [
         | yes x ↦ here {a = n - c .at} {b = n - a} (omega (arith, l .some, c .last .some))
         | no x ↦
             let z : c .at ≡ a = omega (arith, top t c) in
-            rw z (further (h .first (c .rest) (rw z at (c .split)) (λ q. e (c .is ∙ ap (λ x. x ++ n ∷ []) q))))
+            rw z (further (h .first (c .rest) (rw z at (split-before c)) (λ q. e (c .is ∙ ap (λ x. x ++ n ∷ []) q))))
       ])
 
   cut-law : (m : ℕ) → m ≤ n → Top m → Splitting w n (suc k) (cutLast w n rest m)
@@ -164,7 +160,7 @@ split-joined {w} (suc k) n h =
     ∙ stretch-join w 0 a (n - a)
     ∙ ap (λ b. prefix w a ++ stretch w b (n - a)) y in
     let l : 0 < length (stretch w a (n - a)) = rw (stretch-length w a (n - a)) (omega (arith, c .last .some)) in
-    rw e (another (split-joined k a (c .split)) l (c .last .mirrored))
+    rw e (another (split-joined k a (split-before c)) l (c .last .mirrored))
 
 -- 1 exactly where there is a split
 module _ (w : ℕ → ℕ) (n k : ℕ) where
