@@ -6,10 +6,10 @@ use Prim.Native.Nat.{ℕ, zero, suc, _+_, _-_, _*_, _≤_, _<_}
 use native.Mathlib.Omega.{arith}
 use native.Mathlib.Decide.{decLt}
 use lib.Bits.{bitOr}
-use Rattle.words.specs.Definitions.{Ending, Period, LeastPeriod, Leading, LastLead, laterPlaces}
-use Rattle.words.specs.Search.{largest, largest-eq, passing-as}
-use Rattle.words.specs.Mirror.{mirror, ending, ending?}
-use Rattle.words.specs.Computed.{leading?, leadsFrom?, leastPeriod, visits, cutLast, splitOf, splits, rowWord, joinSteps, gatherOver, gathered, gatheredWord}
+use Rattle.words.specs.Definitions.{Ending, Mirrored, radius, Period, LeastPeriod, Leading, LastLead, laterPlaces}
+use Rattle.words.specs.Search.{largest, largest-eq, largest-as, passing-as}
+use Rattle.words.specs.Mirror.{mirror, ending, ending?, mirrored?}
+use Rattle.words.specs.Computed.{leading?, leadsFrom?, leastPeriod, longest, nextEnding, radiusAt, visits, cutLast, splitOf, splits, rowWord, joinSteps, gatherOver, gathered, gatheredWord}
 use Rattle.words.specs.Laws.{least-period, last-lead}
 use Rattle.words.specs.Lengths.{places-end}
 use Rattle.words.specs.Bits.{bits-as}
@@ -26,6 +26,9 @@ agree-back f i h = sym (f i h)
 module _ {w v : ℕ → ℕ} {n : ℕ} (f : Agree w v n) where
   pub ending-as : {m len : ℕ} → m ≤ n → Ending w m len → Ending v m len
   ending-as l h = ending (h .fits) (λ i j c. sym (f i (omega arith)) ∙ mirror h i j c ∙ f j (omega arith))
+
+  pub mirrored-as : {m c len : ℕ} → m ≤ n → Mirrored w m c len → Mirrored v m c len
+  mirrored-as l h = record { end = h .end; within = h .within; is = ending-as (omega (arith, h .within)) (h .is); at = h .at }
 
   pub period-as : {m len p : ℕ} → m ≤ n → Period w m len p → Period v m len p
   period-as l h = record { fits = h .fits; pos = h .pos; same = λ i j c. sym (f i (omega (arith, h .pos))) ∙ h .same i j c ∙ f j (omega arith) }
@@ -44,6 +47,20 @@ module _ {w v : ℕ → ℕ} {n : ℕ} (f : Agree w v n) where
   pub visits-as : (m : ℕ) → m ≤ n → visits w m ≡ visits v m
   unfolding visits
   visits-as m l = passing-as (leading? w m) (leading? v m) m (λ x h. (leading-as f l, leading-as (agree-back f) l))
+
+  -- endings and radii
+
+  pub longest-as : (m : ℕ) → m ≤ n → longest w m ≡ longest v m
+  unfolding longest
+  longest-as m l = largest-as (ending? w m) (ending? v m) (suc m) (λ x h. (ending-as f l, ending-as (agree-back f) l))
+
+  pub next-as : (m len : ℕ) → m ≤ n → nextEnding w m len ≡ nextEnding v m len
+  unfolding nextEnding
+  next-as m len l = largest-as (ending? w m) (ending? v m) len (λ x h. (ending-as f l, ending-as (agree-back f) l))
+
+  pub radius-as : (m c : ℕ) → m ≤ n → radiusAt w m c ≡ radiusAt v m c
+  unfolding radiusAt
+  radius-as m c l = ap radius (largest-as (mirrored? w m c) (mirrored? v m c) (suc m) (λ x h. (mirrored-as f l, mirrored-as (agree-back f) l)))
 
   -- splits and row words
 

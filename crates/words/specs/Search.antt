@@ -145,6 +145,18 @@ module _ {P : ℕ → Type 0} (d : (i : ℕ) → Dec (P i)) where
     | no y ↦ ap passing (omega arith)
   ]
 
+-- two properties that agree below b
+pub largest-as : {P Q : ℕ → Type 0} (d : (i : ℕ) → Dec (P i)) (e : (i : ℕ) → Dec (Q i)) (b : ℕ) → ((x : ℕ) → x < b → P x ↔ Q x) → largest d b ≡ largest e b
+unfolding largest
+largest-as d e zero f = refl
+largest-as {P} {Q} d e (suc b) f = go (d b) refl (e b) refl (f b (omega arith)) (largest-as d e b (λ x l. f x (omega arith)))
+  where
+    go : (x : Dec (P b)) → d b ≡ x → (y : Dec (Q b)) → e b ≡ y → P b ↔ Q b → largest d b ≡ largest e b → largest d (suc b) ≡ largest e (suc b)
+    go (yes p) q (yes r) t g h = rw (q, t, largest)
+    go (yes p) q (no k) t g h = absurd (k (g .0 p))
+    go (no k) q (yes r) t g h = absurd (k (g .1 r))
+    go (no k) q (no l) t g h = rw (q, t, largest) h
+
 -- two properties that agree from 1 to b
 pub passing-as : {P Q : ℕ → Type 0} (d : (i : ℕ) → Dec (P i)) (e : (i : ℕ) → Dec (Q i)) (b : ℕ)
     → ((x : ℕ) → x ≤ b → P x ↔ Q x) → passing d b ≡ passing e b
