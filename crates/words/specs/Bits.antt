@@ -3,10 +3,10 @@ use mathlib.Core.Path.{_≡_, refl, sym, ap, ap₂, _∙_}
 use mathlib.Core.List.{List, [], _∷_}
 use Prim.Native.Nat.{ℕ, zero, suc, _+_, _-_, _*_, _/_, _%_, _^_, max, _≤_, _<_}
 use native.Mathlib.Omega.{arith}
-use native.Mathlib.Nat.{pow-succ', mul-le-mul-right, div-eq-of-lt, mod-eq-of-lt}
+use native.Mathlib.Nat.{pow-succ', mul-le-mul-right, div-eq-of-lt, mod-eq-of-lt, mod-lt}
 use native.Mathlib.Decide.{ℕ-discrete}
 use lib.Bits.{bitOr, or-step, or-comm, or-self, or-block}
-use lib.Pow.{low, high, field, mod-mod-pow, pow-mono}
+use lib.Pow.{low, high, field, mod-mod-pow, pow-mono, pow-pos}
 use Rattle.words.specs.Definitions.{bit, Semilattice}
 use Rattle.words.specs.Computed.{bits, joinAll, raised}
 
@@ -122,6 +122,9 @@ module _ (b : ℕ → ℕ → ℕ) (small : (x : ℕ) → Bits (b x)) (K : ℕ) 
   joined-small s = all-small s (λ k. 0) (λ k. omega arith)
 
 -- Moved up one bit, bits above K dropped
+
+pub raised-lt : (K x : ℕ) → raised K x < 2 ^ suc K
+raised-lt K x = omega (arith, mod-lt (x * 2) (pow-pos (suc K)))
 
 abbrev pub up : (ℕ → ℕ) → ℕ → ℕ
 up f zero = 0

@@ -123,17 +123,17 @@ unfoldable pub joinSteps : (ℕ → ℕ → ℕ) → (ℕ → ℕ) → ℕ → �
 joinSteps op r i p zero = r i
 joinSteps op r i p (suc c) = op (joinSteps op r i p c) (r (i + suc c * p))
 
--- picks i + 1 to j, with least period p and next shorter leading length d: the values of the places i, i + p, i + 2p and so on to j - d - p joined
+-- over picks i + 1 to j, with least period p and next shorter leading length d: the values at i, i+p, i+2p "and so on to j-d-p", joined
 unfoldable pub gatherOver : (ℕ → ℕ → ℕ) → (ℕ → ℕ) → (ℕ → ℕ) → ℕ → ℕ → ℕ
 unfolding joinSteps leastPeriod
 gatherOver op r w i j = let p : ℕ = leastPeriod w j (j - i) in joinSteps op r i p (laterPlaces (j - i) p)
 
--- the gathered value of place i among n picks: over the last leading ending that starts there
+-- the gathered value of place i among n picks: over "the largest j for which picks i+1 to j are a leading ending of prefix j"
 unfoldable pub gathered : (ℕ → ℕ → ℕ) → (ℕ → ℕ) → (ℕ → ℕ) → ℕ → ℕ → ℕ
 unfolding gatherOver largest leadsFrom?
 gathered op r w n i = gatherOver op r w i (largest (leadsFrom? w i) (suc n))
 
--- the gathered word
+-- "The gathered word at place i": the row words' union
 unfoldable pub gatheredWord : ℕ → (ℕ → ℕ) → ℕ → ℕ → ℕ
 unfolding gathered rowWord
 gatheredWord K w n i = gathered bitOr (rowWord K w) w n i

@@ -18,7 +18,7 @@ mostPicks = 2048
 abbrev pub mostSections : ℕ
 mostSections = 8
 
--- the visits of one pick, and so the entries of the visit list
+-- "Visit list under 19 entries": as many as the visits of one pick can be
 abbrev pub mostVisits : ℕ
 mostVisits = 19
 

@@ -77,7 +77,7 @@ module _ (w : ℕ → ℕ) (n : ℕ) where
 module _ (K : ℕ) (w : ℕ → ℕ) (n : ℕ) where
   pub row-lt : rowWord K w n < 2 ^ suc K
   unfolding rowWord
-  row-lt = bits-lt (splits-small w n) (suc K)
+  row-lt = omega (arith, bits-lt (splits-small w n) (suc K))
 
   row-at : (k : ℕ) → k ≤ K → bit (rowWord K w n) k ≡ splits w n k
   unfolding rowWord

@@ -20,10 +20,6 @@ stretch-at w a zero i j h e = absurd (omega arith)
 stretch-at w a (suc len) zero j h e = ap w (omega arith)
 stretch-at w a (suc len) (suc i) j h e = stretch-at w (suc a) len i j (omega arith) (omega arith)
 
-pub stretch-as : (w v : ℕ → ℕ) (a len : ℕ) → ((i : ℕ) → a ≤ i → i < a + len → w i ≡ v i) → stretch w a len ≡ stretch v a len
-stretch-as w v a zero f = refl
-stretch-as w v a (suc len) f = rw (f a (omega arith) (omega arith), stretch-as w v (suc a) len (λ i l h. f i (omega arith) (omega arith)))
-
 pub stretch-join : (w : ℕ → ℕ) (a x y : ℕ) → stretch w a (x + y) ≡ stretch w a x ++ stretch w (a + x) y
 stretch-join w a zero y = let z : a + 0 ≡ a = omega arith in let t : 0 + y ≡ y = omega arith in rw (z, t)
 stretch-join w a (suc x) y =

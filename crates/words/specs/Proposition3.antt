@@ -142,7 +142,7 @@ module _ (op : ℕ → ℕ → ℕ) (r w : ℕ → ℕ) where
     gathered-mended = go (cubic? len p) refl
       where
         go : (d : Dec (Cubic len p)) → cubic? len p ≡ d → gathered op r w (suc m) i ≡ mended op r (suc m) len p (gathered op r w m i)
-        go (yes h) q = rw (q, mended) (gathered-long (omega arith))
+        go (yes h) q = rw (q, mended) (gathered-long (omega arith) ∙ ap (op (gathered op r w m i)) (ap r (omega arith)))
         go (no h) q = rw (q, mended) (gathered-short (omega arith) ∙ ap r (omega arith))
 
   -- PROPOSITION 3: every place of the prefix with one pick more, visited or not

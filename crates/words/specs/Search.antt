@@ -137,14 +137,6 @@ module _ {P : ℕ → Type 0} (d : (i : ℕ) → Dec (P i)) where
       go (yes p) h = rw (passing-with b p) (with-one b _ p h)
       go (no f) h = rw (passing-without b f) (without-one b _ f h)
 
-  -- numbers in between that have not P change nothing
-  pub passing-skip : (a x : ℕ) → a ≤ x → ((y : ℕ) → a < y → y ≤ x → P y → ⊥) → passing x ≡ passing a
-  passing-skip a zero l f = ap passing (omega arith)
-  passing-skip a (suc x) l f = elim (decLe a x) [
-    | yes y ↦ passing-without x (f (suc x) (omega arith) (omega arith)) ∙ passing-skip a x y (λ z h m. f z h (omega arith))
-    | no y ↦ ap passing (omega arith)
-  ]
-
 -- two properties that agree below b
 pub largest-as : {P Q : ℕ → Type 0} (d : (i : ℕ) → Dec (P i)) (e : (i : ℕ) → Dec (Q i)) (b : ℕ) → ((x : ℕ) → x < b → P x ↔ Q x) → largest d b ≡ largest e b
 unfolding largest
