@@ -5,15 +5,18 @@
 //! `fast` answers the same questions for drafts of 2,048 picks by tables.
 //! `calls` holds the ten calls with their refusals, and `book` the plain book.
 //! `draft` is the draft program as a function from bytes to bytes.
-//! `samples` makes the drafts that tests are run on.
+//! `samples` and `structured` make the drafts that tests are run on.
+//! `library` calls the proved core, by the static library.
 
 pub mod book;
 pub mod calls;
 pub mod draft;
 pub mod fast;
+pub mod library;
 mod memo;
 pub mod plain;
 pub mod samples;
+pub mod structured;
 
 /// "A draft has 0 to 2,048 picks."
 pub const MOST_PICKS: usize = 2_048;

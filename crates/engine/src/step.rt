@@ -1,0 +1,71 @@
+// The engine's part of append: the new place's row word, from the words gathered at the visited places.
+ghost use mathlib.Core.Path.{_≡_};
+ghost use Prim.Native.Nat.{_≤_, _<_, _^_, suc};
+ghost use Rattle.words.specs.Definitions.{mostPicks, mostSections};
+ghost use Rattle.words.specs.Computed.{raised};
+ghost use Rattle.models.specs.Engine.{longestLength, steppedAs, stepped};
+use crate::visits::visit_all;
+use cells::ByCentre;
+use cells::ByPlace;
+use cells::Centre;
+use cells::Place;
+use cells::minus;
+use cells::narrow;
+use cells::smaller;
+use cells::store_at_place;
+use cells::wide;
+
+// The length of the longest ending, whose centre is s; brought into 0 to n.
+fn longest_length(n: usize, s: Centre) -> usize
+    requires { ⌜ n ≤ mostPicks ⌝ }
+    ensures { λ r. ⌜ r ≡ longestLength n (s .0) ⌝ }
+{
+    smaller(minus(2 * n + 1, s.0), n)
+}
+
+// The first number that is no row word under k.
+fn row_end(k: u8) -> usize
+    requires { ⌜ k ≤ mostSections ⌝ }
+    ensures { λ r. ⌜ r ≡ 2 ^ suc k ⌝ }
+    ensures small { λ r. ⌜ (0 < r) × (r ≤ 512) ⌝ }
+{
+    2 << (k as usize)
+}
+
+// The word moved up one bit, bits above k dropped.
+fn raised(word: u16, k: u8) -> u16
+    requires { ⌜ k ≤ mostSections ⌝ }
+    ensures { λ r. ⌜ r ≡ raised k word ⌝ }
+{
+    narrow(wide(word) * 2 % row_end(k))
+}
+
+// The row word of the new place, and how many places were visited for it.
+pub struct NewRow {
+    pub row: u16,
+    pub count: usize,
+}
+
+// Prefix n, whose longest ending has the centre `longest`.
+pub fn step(
+    rows: &mut ByPlace,
+    gathered: &mut ByPlace,
+    next: &ByCentre,
+    visits: &mut [u16],
+    n: usize,
+    k: u8,
+    longest: Centre,
+) -> NewRow
+    requires { ⌜ (n ≤ mostPicks) × (k ≤ mostSections) ⌝ }
+    ensures { λ r. ⌜ steppedAs (now (rows .exit)) (now (gathered .exit)) (now (visits .exit)) (r .row) (r .count)
+        ≡ stepped k n (longest .0) (now (rows .entry)) (now (next .entry)) (now (gathered .entry)) (now (visits .entry)) ⌝ }
+{
+    let seen = visit_all(rows, gathered, next, visits, n, longest_length(n, longest));
+    let row = raised(seen.union, k);
+    store_at_place(rows, Place(n), row);
+    store_at_place(gathered, Place(n), row);
+    NewRow {
+        row,
+        count: seen.count,
+    }
+}

@@ -1,0 +1,14 @@
+pub mod Centres
+pub mod Reflection
+pub mod Linked
+pub mod Iterator
+pub mod Stores
+pub mod Scanning
+pub mod Unlinking
+pub mod Iterating
+pub mod Engine
+pub mod Walking
+pub mod Stepping
+pub mod Core
+pub mod Answers
+pub mod Turns

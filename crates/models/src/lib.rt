@@ -1,0 +1,1 @@
+// No code: what the iterator and the engine compute, their invariants and laws are in specs/.

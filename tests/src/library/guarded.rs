@@ -1,0 +1,54 @@
+//! An array between guard entries.
+
+/// Guard entries on each side.
+const GUARDS: usize = 64;
+
+/// What a guard entry holds.
+pub trait Guard: Copy + Default + PartialEq {
+    const GUARD: Self;
+}
+
+impl Guard for u8 {
+    const GUARD: u8 = 0xA5;
+}
+
+impl Guard for u16 {
+    const GUARD: u16 = 0xA5C3;
+}
+
+impl Guard for usize {
+    const GUARD: usize = 0xA5C3_A5C3;
+}
+
+/// An array on the heap with guard entries before and after it.
+#[derive(Clone, PartialEq, Eq)]
+pub struct Guarded<T> {
+    entries: Box<[T]>,
+}
+
+impl<T: Guard> Guarded<T> {
+    /// An array of zeros.
+    pub fn new(length: usize) -> Guarded<T> {
+        let mut entries = vec![T::GUARD; GUARDS + length + GUARDS].into_boxed_slice();
+        entries[GUARDS..GUARDS + length].fill(T::default());
+        Guarded { entries }
+    }
+
+    /// The array itself.
+    pub fn inner(&self) -> &[T] {
+        &self.entries[GUARDS..self.entries.len() - GUARDS]
+    }
+
+    /// The array itself, to write.
+    pub fn inner_mut(&mut self) -> &mut [T] {
+        let end = self.entries.len() - GUARDS;
+        &mut self.entries[GUARDS..end]
+    }
+
+    /// Whether every guard entry is as it was made.
+    pub fn guards_hold(&self) -> bool {
+        let (front, rest) = self.entries.split_at(GUARDS);
+        let back = &rest[rest.len() - GUARDS..];
+        front.iter().chain(back).all(|&entry| entry == T::GUARD)
+    }
+}
