@@ -1,14 +1,20 @@
+-- the promises
+pub mod Core
+pub mod Answers
+-- what is computed
+pub mod Iterator
+pub mod Engine
+-- endings by their centres
 pub mod Centres
 pub mod Reflection
 pub mod Linked
-pub mod Iterator
+-- the iterator's laws
 pub mod Stores
 pub mod Scanning
 pub mod Unlinking
 pub mod Iterating
-pub mod Engine
+-- the engine's laws
 pub mod Walking
 pub mod Stepping
-pub mod Core
-pub mod Answers
+-- how code meets model
 pub mod Turns
