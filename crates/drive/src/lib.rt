@@ -4,7 +4,7 @@ ghost use mathlib.Core.List.{[], _∷_};
 ghost use lib.Seq.{sets};
 ghost use Rattle.models.specs.Core.{arrays};
 ghost use Rattle.iterator.specs.Says.{shorterSays};
-ghost use Rattle.drive.specs.Drives.{Drives, RadiusNumber, LongestNumber, NextNumber, orZero};
+ghost use Rattle.drive.specs.Drives.{Ranged, Drives, RadiusNumber, LongestNumber, NextNumber, orZero};
 use cells::ByCentre;
 use cells::ByPlace;
 use cells::Centre;
@@ -28,13 +28,28 @@ fn number_of(o: Shorter) -> usize
     }
 }
 
-fn give(answer: &mut [usize; 3], a: Appended)
-    ensures { λ r. ⌜ now (answer .exit) ≡ sets (now (answer .entry)) 0 (a .row ∷ a .count ∷ a .longest .0 ∷ []) ⌝ }
+// Whether one pick more can be taken.
+fn in_range(n: usize, k: u8) -> bool
+    ensures { λ r. ⌜ Ranged k n r ⌝ }
+{
+    if n < PICKS {
+        if 1 <= k {
+            return k <= SECTIONS;
+        }
+    }
+    false
+}
+
+// Fills the answer, and gives 1.
+fn give(answer: &mut [usize; 3], a: Appended) -> usize
+    ensures { λ r. ⌜ r ≡ 1 ⌝ }
+    ensures filled { λ r. ⌜ now (answer .exit) ≡ sets (now (answer .entry)) 0 (a .row ∷ a .count ∷ a .longest .0 ∷ []) ⌝ }
 {
     let s = a.longest;
     answer[0] = wide(a.row);
     answer[1] = a.count;
     answer[2] = s.0;
+    1
 }
 
 // One pick more. The answer is the row word, the count of visits and the longest ending's centre.
@@ -56,33 +71,27 @@ pub extern "C" fn drive_append(
     pick: u8,
     answer: &mut [usize; 3],
 ) -> usize
-    ensures { λ r. ⌜ Drives k n pick
+    ensures { λ r. ⌜ Drives k n pick (now (visits .entry)) (now (visits .exit)) (now (answer .entry)) (now (answer .exit)) r
         (arrays (now (letters .entry)) (now (radius .entry)) (now (heads .entry)) (now (lends .entry)) (now (next .entry)) (now (prev .entry)) stored (now (rows .entry)) (now (gathered .entry)))
-        (λ s. arrays (now (letters .exit)) (now (radius .exit)) (now (heads .exit)) (now (lends .exit)) (now (next .exit)) (now (prev .exit)) s (now (rows .exit)) (now (gathered .exit)))
-        (now (visits .entry)) (now (visits .exit)) (now (answer .entry)) (now (answer .exit)) r ⌝ }
+        (λ s. arrays (now (letters .exit)) (now (radius .exit)) (now (heads .exit)) (now (lends .exit)) (now (next .exit)) (now (prev .exit)) s (now (rows .exit)) (now (gathered .exit))) ⌝ }
 {
-    if n < PICKS {
-        if 1 <= k {
-            if k <= SECTIONS {
-                let a = append(
-                    letters,
-                    radius,
-                    heads,
-                    lends,
-                    next,
-                    prev,
-                    rows,
-                    gathered,
-                    visits,
-                    n,
-                    k,
-                    Centre(stored),
-                    pick,
-                );
-                give(answer, a);
-                return 1;
-            }
-        }
+    if in_range(n, k) {
+        let a = append(
+            letters,
+            radius,
+            heads,
+            lends,
+            next,
+            prev,
+            rows,
+            gathered,
+            visits,
+            n,
+            k,
+            Centre(stored),
+            pick,
+        );
+        return give(answer, a);
     }
     0
 }

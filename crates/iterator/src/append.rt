@@ -42,7 +42,6 @@ pub fn append(
     ensures { λ s. ⌜ AppendsLetter n pick
         (iterator (now (letters .entry)) (now (radius .entry)) (now (heads .entry)) (now (lends .entry)) (now (next .entry)) (now (prev .entry)) (stored .0))
         (iterator (now (letters .exit)) (now (radius .exit)) (now (heads .exit)) (now (lends .exit)) (now (next .exit)) (now (prev .exit)) (s .0)) ⌝ }
-    ensures high { λ s. ⌜ s .0 ≤ 2 * n + 2 ⌝ }
 {
     let s = scan(letters, radius, heads, lends, n, longest(n, stored), pick);
     store_letter(letters, Place(n), pick);

@@ -2,7 +2,7 @@
 ghost use mathlib.Core.Path.{_≡_};
 ghost use Prim.Native.Nat.{_<_};
 ghost use Rattle.models.specs.Iterator.{links, link, unlink, unlinks};
-use crate::reading::reflection;
+use crate::reflection::reflection;
 use cells::ByCentre;
 use cells::Centre;
 use cells::at_centre;

@@ -3,7 +3,7 @@ ghost use mathlib.Core.Path.{_≡_};
 ghost use Prim.Native.Nat.{_+_, _-_, _*_, _≤_, _<_};
 ghost use Rattle.words.specs.Definitions.{mostPicks};
 ghost use Rattle.models.specs.Iterator.{start, extends, scanned, scan};
-use crate::reading::reflected_radius;
+use crate::reflection::reflected_radius;
 use cells::ByCentre;
 use cells::ByPlace;
 use cells::Centre;

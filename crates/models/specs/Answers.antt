@@ -33,7 +33,7 @@ endings h = record {
   radii = h .stretches .radii;
   next = λ c e l.
       let f = h .chain .list .fore c e (first (h .stretches .radii) c e) (omega arith) in
-      record { more = f .more; is = f .is; least = f .least };
+      record { more = f .more; is = f .to .is; least = f .least };
 }
 
 abbrev pub nextOf : List ℕ → List ℕ → ℕ → ℕ → ℕ → Option ℕ
@@ -53,14 +53,14 @@ pub record AppendsLetter (n pick : ℕ) (t t' : Iterator) : Type 0 where
 
 -- Each follows from what is computed
 
-pub radius-is : (R : List ℕ) (n s c r : ℕ) → r ≡ radiusOf R n (longestOf n s) c → RadiusIs R n s c r
-radius-is R n s c r e = record { meaning = λ w h a b. e ∙ (let z : longestOf n s ≡ s = in-range h in rw z (radius-right h c a b)); computes = e }
+pub radius-promised : (R : List ℕ) (n s c r : ℕ) → r ≡ radiusOf R n (longestOf n s) c → RadiusIs R n s c r
+radius-promised R n s c r e = record { meaning = λ w h a b. e ∙ (let z : longestOf n s ≡ s = in-range h in rw z (radius-right h c a b)); computes = e }
 
-pub longest-is : (n s r : ℕ) → r ≡ longestOf n s → LongestIs n s r
-longest-is n s r e = record { meaning = λ w R h. e ∙ longest-right h; computes = e }
+pub longest-promised : (n s r : ℕ) → r ≡ longestOf n s → LongestIs n s r
+longest-promised n s r e = record { meaning = λ w R h. e ∙ longest-right h; computes = e }
 
-pub next-is : (R N : List ℕ) (n s c : ℕ) (r : Option ℕ) → r ≡ nextOf R N n (longestOf n s) c → NextIs R N n s c r
-next-is R N n s c r e = record {
+pub next-promised : (R N : List ℕ) (n s c : ℕ) (r : Option ℕ) → r ≡ nextOf R N n (longestOf n s) c → NextIs R N n s c r
+next-promised R N n s c r e = record {
   meaning = λ w h len p f q. e ∙ there w h len p f q;
   missing = λ w h f. e ∙ nowhere w h f;
   computes = e;
@@ -83,5 +83,5 @@ next-is R N n s c r e = record {
               (λ a b. f (2 * n + 1 - c) (omega (arith, a .low)) (at-ending (omega (arith, a .low)) a) (omega (arith, a .low))),
         )
 
-pub appends-letter : (n pick : ℕ) (t t' : Iterator) → n < mostPicks → t' ≡ appended t n pick → AppendsLetter n pick t t'
-appends-letter n pick t t' l e = record { meaning = λ w v h f g. rw e (keeps v n pick t h l f g); computes = e }
+pub letter-promised : (n pick : ℕ) (t t' : Iterator) → n < mostPicks → t' ≡ appended t n pick → AppendsLetter n pick t t'
+letter-promised n pick t t' l e = record { meaning = λ w v h f g. rw e (keeps v n pick t h l f g); computes = e }

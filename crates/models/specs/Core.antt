@@ -189,8 +189,8 @@ module _ (K n pick : ℕ) (a : Arrays) (vs : List ℕ) where
   unfolding append lengths
   append-later = sets-later vs 0 lengths
 
-pub appends : (K n pick : ℕ) (a : Arrays) (vs : List ℕ) (z : After) → n < mostPicks → z ≡ append K n pick a vs → Appends K n pick a vs z
-appends K n pick a vs z l e = rw e (record {
+pub append-promised : (K n pick : ℕ) (a : Arrays) (vs : List ℕ) (z : After) → n < mostPicks → z ≡ append K n pick a vs → Appends K n pick a vs z
+append-promised K n pick a vs z l e = rw e (record {
   meaning = λ u p h. held u p h;
   computes = refl;
   few = append-few K n pick a vs l;

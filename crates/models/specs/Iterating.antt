@@ -15,8 +15,8 @@ use Rattle.models.specs.Reflection.{StartsAt, empty-at}
 use Rattle.models.specs.Linked.{linked-as, linked-from}
 use Rattle.models.specs.Iterator.{Iterator, radiusOf, longestOf, lastCentre, isEnding, Scanned, links, unlinks, scanOf, lengthened, lostPlace, lostHead, appended}
 use Rattle.models.specs.Stores.{at, set-here, set-there}
-use Rattle.models.specs.Scanning.{centres, places, LastWith, Radii, Stretches, stretches-as, begin, Found, scans, reflected-widest}
-use Rattle.models.specs.Unlinking.{Chain, Old, lengthens, begins, walks}
+use Rattle.models.specs.Scanning.{centres, places, LastWith, Radii, Stretches, stretches-as, scan-begin, Found, scan-right, reflected-widest}
+use Rattle.models.specs.Unlinking.{Chain, Old, lengthens, left-begin, unlinks-right}
 
 -- the arrays hold the first n letters of w
 pub record Iterates (w : ℕ → ℕ) (n : ℕ) (t : Iterator) : Type 0 where
@@ -38,8 +38,8 @@ module _ {w : ℕ → ℕ} (v : ℕ → ℕ) (n pick : ℕ) (t : Iterator) (h : 
 
   found : Found v n (t .longest) (scanOf t n pick)
   found = rw (in-range (before .radii))
-      (scans v (t .letters) n pick (t .longest) small (λ i x. h .letters i x ∙ f i x) e (before .radii .longest .is)
-      (2 * n + 2 - t .longest) (begin before) (omega arith) (omega (arith, before .radii .longest .is .high)))
+      (scan-right v (t .letters) n pick (t .longest) small (λ i x. h .letters i x ∙ f i x) e (before .radii .longest .is)
+      (2 * n + 2 - t .longest) (scan-begin before) (omega arith) (omega (arith, before .radii .longest .is .high)))
 
   -- the list of the endings, with the two short ones of the longer text
   longer : Chain (Old v n) (t .longest) (2 * n + 3) (lengthened (links (t .next) (t .prev)) n)
@@ -65,12 +65,12 @@ module _ {w : ℕ → ℕ} (v : ℕ → ℕ) (n pick : ℕ) (t : Iterator) (h : 
           let p : t₁ + suc n ≡ s = omega (arith, q .stretches .radii .longest .is .low) in
           let old : Old v n s = λ x y. q .was (elim (decLt s (2 * n + 2)) [ yes z ↦ z | no z ↦ absurd (y (omega (arith, q .high))) ]) in
           let d : LastWith (StartsAt v (suc n) t₁) s (lostHead (g .heads) n s) = q .stretches .lends .head t₁ (omega (arith, q .high)) in
-          walks (q .stretches) small (q .high) t₁ p (lostHead (g .heads) n s) (lostHead (g .heads) n s) (lengthened (links (t .next) (t .prev)) n)
+          unlinks-right (q .stretches) small (q .high) t₁ p (lostHead (g .heads) n s) (lostHead (g .heads) n s) (lengthened (links (t .next) (t .prev)) n)
           (omega arith) (d .below) (d .is)
           (record {
             next = longer .next;
             prev = longer .prev;
-            list = begins (q .stretches) small (q .high) t₁ p d (linked-from s old (q .low) (omega (arith, q .high)) (longer .list));
+            list = left-begin (q .stretches) small (q .high) t₁ p d (linked-from s old (q .low) (omega (arith, q .high)) (longer .list));
           })
 
   -- PROPOSITION 1: append keeps the invariant, for the word with one more letter

@@ -65,7 +65,7 @@ module _ {w v : ℕ → ℕ} {n : ℕ} (f : Agree w v n) where
   }
 
 -- the same while the scan is at c: all below c is right for the longer text, and the radii up to from are still right for the shorter
-pub record At (w : ℕ → ℕ) (n from c : ℕ) (R H L : List ℕ) : Type 0 where
+pub record ScanAt (w : ℕ → ℕ) (n from c : ℕ) (R H L : List ℕ) : Type 0 where
   pub sizes : Sizes R H L
   pub old : (x : ℕ) → 0 < x → x ≤ from → Widest w n x (reach R x)
   pub over : (x : ℕ) → x < c → EndingAt w (suc n) x → ⊥
@@ -83,8 +83,8 @@ module _ {w : ℕ → ℕ} {n s : ℕ} {R H L : List ℕ} (h : Stretches w n s R
   off : (i x : ℕ) → x < s → StartsAt w (suc n) i x → StartsAt w n i x
   off i x l f = record { end = f .end; sum = f .sum; widest = stayed (f .widest) (over x l) }
 
-  pub begin : At w n s s R H L
-  begin = record {
+  pub scan-begin : ScanAt w n s s R H L
+  scan-begin = record {
     sizes = h .sizes;
     old = h .radii .widest;
     over = over;
@@ -132,7 +132,7 @@ module _ (w : ℕ → ℕ) (letters : List ℕ) (n pick from : ℕ) (small : n <
         })
 
   -- a turn that goes on keeps it
-  module _ {c i : ℕ} (r : ℕ) {R H L : List ℕ} (h : At w n from c R H L) (g : Widest w (suc n) c (c / 2 + r)) (was : Widest w n c (c / 2 + r))
+  module _ {c i : ℕ} (r : ℕ) {R H L : List ℕ} (h : ScanAt w n from c R H L) (g : Widest w (suc n) c (c / 2 + r)) (was : Widest w n c (c / 2 + r))
       (e : i ≡ start c r)
       (out : EndingAt w (suc n) c → ⊥) where
     c-small : c ≤ 2 * n + 1
@@ -174,8 +174,8 @@ module _ (w : ℕ → ℕ) (letters : List ℕ) (n pick from : ℕ) (small : n <
       ];
     }
 
-    turn : At w n from (c + 1) (set R c r) (set H i c) (set L c (at H i))
-    turn = record {
+    scan-turn : ScanAt w n from (c + 1) (set R c r) (set H i c) (set L c (at H i))
+    scan-turn = record {
       sizes = record {
         radius = length-set R c r ∙ h .sizes .radius;
         heads = length-set H i c ∙ h .sizes .heads;
@@ -197,9 +197,9 @@ module _ (w : ℕ → ℕ) (letters : List ℕ) (n pick from : ℕ) (small : n <
     }
 
   -- the scan stops at c
-  stop : {c : ℕ} (r : ℕ) {R H L : List ℕ} → At w n from c R H L → EndingAt w (suc n) c → c ≤ 2 * n + 2 → c / 2 + r ≡ suc n
+  scan-stop : {c : ℕ} (r : ℕ) {R H L : List ℕ} → ScanAt w n from c R H L → EndingAt w (suc n) c → c ≤ 2 * n + 2 → c / 2 + r ≡ suc n
       → Found w n c (scanned c (set R c r) H L)
-  stop {c} r {R} {H} {L} h e b k = record {
+  scan-stop {c} r {R} {H} {L} h e b k = record {
     stretches = record {
       sizes = record { radius = length-set R c r ∙ h .sizes .radius; heads = h .sizes .heads; lends = h .sizes .lends };
       radii = record {
@@ -216,15 +216,15 @@ module _ (w : ℕ → ℕ) (letters : List ℕ) (n pick from : ℕ) (small : n <
     was = λ q. narrower e (omega arith) (omega arith);
   }
 
-  pub scans : (k : ℕ) {c : ℕ} {R H L : List ℕ} → At w n from c R H L → from ≤ c → c + k ≡ 2 * n + 2 → Found w n c (scan letters n pick from k c R H L)
+  pub scan-right : (k : ℕ) {c : ℕ} {R H L : List ℕ} → ScanAt w n from c R H L → from ≤ c → c + k ≡ 2 * n + 2 → Found w n c (scan letters n pick from k c R H L)
   unfolding scan
-  scans zero {c} {R} {H} {L} h b e =
+  scan-right zero {c} {R} {H} {L} h b e =
       let q : c ≡ 2 * n + 2 = omega arith in
-      stop 0 h (rw q (single-at n)) (omega arith) (omega arith)
-  scans (suc k) {c} {R} {H} {L} h b e =
+      scan-stop 0 h (rw q (single-at n)) (omega arith) (omega arith)
+  scan-right (suc k) {c} {R} {H} {L} h b e =
       let was : Widest w n c (c / 2 + reflectedRadius R n from c) = reflected-widest R c ends (h .old) b (omega arith) in
       both (extends letters n c (reflectedRadius R n from c) pick) refl was
-      (λ out. scans k (turn (reflectedRadius R n from c) h (stays was out) was refl out) (omega arith) (omega arith))
+      (λ out. scan-right k (scan-turn (reflectedRadius R n from c) h (stays was out) was refl out) (omega arith) (omega arith))
     where
       both : (t : Bool) → extends letters n c (reflectedRadius R n from c) pick ≡ t → Widest w n c (c / 2 + reflectedRadius R n from c)
           → ((EndingAt w (suc n) c → ⊥)
@@ -234,7 +234,7 @@ module _ (w : ℕ → ℕ) (letters : List ℕ) (n pick from : ℕ) (small : n <
           → Found w n c (scan letters n pick from (suc k) c R H L)
       both true q was _ =
           let m = extends-true letters n c (reflectedRadius R n from c) pick q in
-          simp q (stop (reflectedRadius R n from c + 1) h (extended was (omega arith) m) (omega arith) (omega (arith, m .closes)))
+          simp q (scan-stop (reflectedRadius R n from c + 1) h (extended was (omega arith) m) (omega arith) (omega (arith, m .closes)))
       both false q was next =
           simp q (
           let f = next (not-extended was (omega arith) (extends-false letters n c (reflectedRadius R n from c) pick q)) in

@@ -19,7 +19,7 @@ use Rattle.models.specs.Centres.{LongestEndingAt}
 use Rattle.models.specs.Engine.{longestLength, Walked, walkAll, Stepped, stepped}
 use Rattle.models.specs.Stores.{at, set-here, set-there}
 use Rattle.models.specs.Scanning.{places}
-use Rattle.models.specs.Walking.{Tells, longest-length, At, Right, walks, walk-length}
+use Rattle.models.specs.Walking.{Tells, longest-length, WalkAt, WalkRight, walk-right, walk-length}
 
 -- the arrays hold the row word and the gathered word of every place up to n
 pub record Gathers (K : ℕ) (w : ℕ → ℕ) (n : ℕ) (R G : List ℕ) : Type 0 where
@@ -66,28 +66,28 @@ module _ (K : ℕ) (w : ℕ → ℕ) (m s : ℕ) (R N G : List ℕ) (h : Gathers
   z : Walked
   z = walkAll (suc m) s R N G
 
-  begin : At bitOr (rowWord K w) w m R N (h .rows) t len G
+  walk-begin : WalkAt bitOr (rowWord K w) w m R N (h .rows) t len G
   unfolding gatheredWord
-  begin = record {
+  walk-begin = record {
     size = omega (arith, h .sizeGathered);
     done = λ i l. h .all i (omega arith)
         ∙ sym (gathered-kept bitOr (rowWord K w) w m i (omega arith) (λ c. omega (arith, longest .most (suc m - i) (c .is) (omega arith))));
     todo = λ i l g. h .all i g;
   }
 
-  right : Right bitOr (rowWord K w) w m R N (h .rows) t len 0 z
+  walked-right : WalkRight bitOr (rowWord K w) w m R N (h .rows) t len 0 z
   unfolding z len walkAll
-  right = walks bitOr (rowWord K w) w m R N (h .rows) t len len G 0 (omega arith) (longest-leads longest) begin
+  walked-right = walk-right bitOr (rowWord K w) w m R N (h .rows) t len len G 0 (omega arith) (longest-leads longest) walk-begin
 
   lengths-right : z .lengths ≡ visits w (suc m)
   unfolding visits
-  lengths-right = right .lengths
+  lengths-right = walked-right .lengths
       ∙ sym (passing-skip (leading? w (suc m)) len (suc m) (omega (arith, longest .below))
       (λ x a b c. omega (arith, longest .most x (c .is) (omega arith))))
 
   row-right : raised K (z .union) ≡ rowWord K w (suc m)
   unfolding gatheredWord
-  row-right = ap (raised K) (right .union ∙ ap (joinAll bitOr (λ x. gathered bitOr (rowWord K w) w (suc m) (suc m - x)) 0) lengths-right)
+  row-right = ap (raised K) (walked-right .union ∙ ap (joinAll bitOr (λ x. gathered bitOr (rowWord K w) w (suc m) (suc m - x)) 0) lengths-right)
       ∙ sym (row-law w m K)
 
   -- every row word and every gathered word, visited or not, is that of the longer prefix
@@ -106,7 +106,7 @@ module _ (K : ℕ) (w : ℕ → ℕ) (m s : ℕ) (R N G : List ℕ) (h : Gathers
           ];
           all = λ i l. elim (ℕ-discrete i (suc m)) [
             | yes e ↦ rw e (set-here (z .gathered) (suc m) x (omega (arith, size)) ∙ row-right ∙ sym (gathered-own bitOr (rowWord K w) w (suc m)))
-            | no e ↦ set-there (z .gathered) (suc m) i x e ∙ right .all i (omega arith)
+            | no e ↦ set-there (z .gathered) (suc m) i x e ∙ walked-right .all i (omega arith)
           ];
         };
         row = row-right;

@@ -136,18 +136,18 @@ thrice l = omega arith
 
 -- the value gathered at the start i of the ending of length len, as the code takes its two ways; d is the next length
 module _ (R G : List ℕ) (n len p i v : ℕ) (at : i ≡ n - len) where
-  pub mended-own : len < 3 * p → v ≡ getD R i 0 → v ≡ mended bitOr (λ x. getD R x 0) n len p (getD G (n - len) 0)
+  pub mended-short : len < 3 * p → v ≡ getD R i 0 → v ≡ mended bitOr (λ x. getD R x 0) n len p (getD G (n - len) 0)
   unfolding mended
-  mended-own h f = go (cubic? len p) refl
+  mended-short h f = go (cubic? len p) refl
     where
       go : (d : Dec (Cubic len p)) → cubic? len p ≡ d → v ≡ mended bitOr (λ x. getD R x 0) n len p (getD G (n - len) 0)
       go (yes y) e = absurd (omega arith)
       go (no y) e = rw (e, mended) (f ∙ ap (λ x. getD R x 0) at)
 
-  pub mended-joined : (d j a b : ℕ) → 3 * p ≤ len → d ≡ nextLeading len p → j ≡ n - d - p → a ≡ getD G i 0 → b ≡ getD R j 0 → v ≡ bitOr a b
+  pub mended-long : (d j a b : ℕ) → 3 * p ≤ len → d ≡ nextLeading len p → j ≡ n - d - p → a ≡ getD G i 0 → b ≡ getD R j 0 → v ≡ bitOr a b
       → v ≡ mended bitOr (λ x. getD R x 0) n len p (getD G (n - len) 0)
   unfolding mended
-  mended-joined d j a b h e₁ e₂ e₃ e₄ e₅ = go (cubic? len p) refl
+  mended-long d j a b h e₁ e₂ e₃ e₄ e₅ = go (cubic? len p) refl
     where
       go : (q : Dec (Cubic len p)) → cubic? len p ≡ q → v ≡ mended bitOr (λ x. getD R x 0) n len p (getD G (n - len) 0)
       go (yes y) e = rw (e, mended) (rw (e₅, e₃, e₄, e₂, e₁, at))

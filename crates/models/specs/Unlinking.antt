@@ -89,21 +89,21 @@ module _ {w : ℕ → ℕ} {n s : ℕ} {R H L : List ℕ} (h : Stretches w (suc 
     | no x ↦ absurd (omega (arith, l .most (s + s - c) (λ _. lost-starts ends p (omega arith) b (old-lost q x)) (omega arith)))
   ]
 
-  pub begins : {N P : ℕ → ℕ} {v : ℕ} → LastWith (StartsAt w (suc n) t) s v → Linked N P (Old w n) s (2 * n + 3)
+  pub left-begin : {N P : ℕ → ℕ} {v : ℕ} → LastWith (StartsAt w (suc n) t) s v → Linked N P (Old w n) s (2 * n + 3)
       → Linked N P (Left w n s v) s (2 * n + 3)
-  begins l k = linked-as
+  left-begin l k = linked-as
       (λ c b q. (q, λ m. elim (ℕ-discrete c s) [ yes x ↦ rw x ends | no x ↦ between l (omega arith) (omega arith) (omega arith) m q ]))
       (λ c b q. q .0) k
 
-  finishes : {N P : ℕ → ℕ} → Linked N P (Left w n s 0) s (2 * n + 3) → Linked N P (EndingAt w (suc n)) s (2 * n + 3)
-  finishes k = linked-as
+  left-end : {N P : ℕ → ℕ} → Linked N P (Left w n s 0) s (2 * n + 3) → Linked N P (EndingAt w (suc n)) s (2 * n + 3)
+  left-end k = linked-as
       (λ c b q. q .1 (omega (arith, old-high (q .0), ends .low)))
       (λ c b q. (λ x y. narrower q (omega arith) (omega (arith, q .high)), λ _. q)) k
 
   -- the centre that x stands for goes out, and y is the next in the lend list
-  step : (l : Links) {x y : ℕ} → StartsAt w (suc n) t x → x < s → LastWith (StartsAt w (suc n) t) x y
+  left-step : (l : Links) {x y : ℕ} → StartsAt w (suc n) t x → x < s → LastWith (StartsAt w (suc n) t) x y
       → Chain (Left w n s x) s (2 * n + 3) l → Chain (Left w n s y) s (2 * n + 3) (unlink l (lostCentre x s))
-  step l {x} {y} f b g k =
+  left-step l {x} {y} f b g k =
       let N : List ℕ = l .next in
       let P : List ℕ = l .prev in
       let c : ℕ = lostCentre x s in
@@ -134,14 +134,14 @@ module _ {w : ℕ → ℕ} {n s : ℕ} {R H L : List ℕ} (h : Stretches w (suc 
             (k .list));
       }
 
-  pub walks : (k x : ℕ) (l : Links) → x ≤ k → x < s → (0 < x → StartsAt w (suc n) t x) → Chain (Left w n s x) s (2 * n + 3) l
+  pub unlinks-right : (k x : ℕ) (l : Links) → x ≤ k → x < s → (0 < x → StartsAt w (suc n) t x) → Chain (Left w n s x) s (2 * n + 3) l
       → Chain (EndingAt w (suc n)) s (2 * n + 3) (unlinks L s k x l)
   unfolding unlinks
-  walks zero zero l a m f q = record { next = q .next; prev = q .prev; list = finishes (q .list) }
-  walks zero (suc x) l a m f q = absurd (omega arith)
-  walks (suc k) zero l a m f q = record { next = q .next; prev = q .prev; list = finishes (q .list) }
-  walks (suc k) (suc x) l a m f q =
+  unlinks-right zero zero l a m f q = record { next = q .next; prev = q .prev; list = left-end (q .list) }
+  unlinks-right zero (suc x) l a m f q = absurd (omega arith)
+  unlinks-right (suc k) zero l a m f q = record { next = q .next; prev = q .prev; list = left-end (q .list) }
+  unlinks-right (suc k) (suc x) l a m f q =
       let g : LastWith (StartsAt w (suc n) t) (suc x) (at L (suc x)) = h .lends .rest (suc x) t m (f (omega arith)) in
       simp (lt-ltb _ _ (g .below))
-      (walks k (at L (suc x)) (unlink l (lostCentre (suc x) s)) (omega (arith, g .below)) (omega (arith, g .below)) (g .is)
-      (step l (f (omega arith)) m g q))
+      (unlinks-right k (at L (suc x)) (unlink l (lostCentre (suc x) s)) (omega (arith, g .below)) (omega (arith, g .below)) (g .is)
+      (left-step l (f (omega arith)) m g q))

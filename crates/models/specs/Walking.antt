@@ -38,7 +38,7 @@ module _ {w : ℕ → ℕ} {n : ℕ} where
       let more : c < N c = f .more in
       let within : N c ≤ 2 * n + 1 = f .within in
       record {
-        is = ending-period {k = 2 * n + 1 - N c} e (at-ending {c = N c} (omega arith) (f .is)) (omega arith) (omega arith);
+        is = ending-period {k = 2 * n + 1 - N c} e (at-ending {c = N c} (omega arith) (f .to .is)) (omega arith) (omega arith);
         least = λ q b. elim (decLe len q) [
           | yes y ↦ omega arith
           | no y ↦ omega (
@@ -113,7 +113,7 @@ module _ (op : ℕ → ℕ → ℕ) (R N : List ℕ) (n : ℕ) where
 
 module _ (op : ℕ → ℕ → ℕ) (r w : ℕ → ℕ) (m : ℕ) (R N : List ℕ) (rows : (i : ℕ) → i ≤ m → at R i ≡ r i) (tells : Tells w (suc m) N) where
   -- the walk is at length len: the places before that ending are as the longer prefix has them, the others as the shorter
-  pub record At (len : ℕ) (G : List ℕ) : Type 0 where
+  pub record WalkAt (len : ℕ) (G : List ℕ) : Type 0 where
     pub size : suc m < length G
     pub done : (i : ℕ) → i + len < suc m → at G i ≡ gathered op r w (suc m) i
     pub todo : (i : ℕ) → suc m ≤ i + len → i ≤ m → at G i ≡ gathered op r w m i
@@ -131,8 +131,8 @@ module _ (op : ℕ → ℕ → ℕ) (r w : ℕ → ℕ) (m : ℕ) (R N : List �
     mends : (i old : ℕ) → i + len ≡ suc m → old ≡ gathered op r w m i → mended op (at R) (suc m) len p old ≡ gathered op r w (suc m) i
     mends i old e o = mended-rows old ∙ ap (mended op r (suc m) len p) o ∙ sym (gathered-mended op r w m i len p e some L a)
 
-    step : (G : List ℕ) (i v : ℕ) → i + len ≡ suc m → v ≡ gathered op r w (suc m) i → At len G → At (nextLeading len p) (set G i v)
-    step G i v e new h =
+    walk-step : (G : List ℕ) (i v : ℕ) → i + len ≡ suc m → v ≡ gathered op r w (suc m) i → WalkAt len G → WalkAt (nextLeading len p) (set G i v)
+    walk-step G i v e new h =
         let less : nextLeading len p < len = next-less len p some (a .is .pos) in
         record {
           size = rw (length-set G i v) (h .size);
@@ -157,22 +157,22 @@ module _ (op : ℕ → ℕ → ℕ) (r w : ℕ → ℕ) (m : ℕ) (R N : List �
         (λ y b c l. omega (arith, next-is L a some .most y l (omega arith))))
 
   -- what the walk from len on leaves
-  pub record Right (len a : ℕ) (z : Walked) : Type 0 where
+  pub record WalkRight (len a : ℕ) (z : Walked) : Type 0 where
     pub all : (i : ℕ) → i ≤ m → at (z .gathered) i ≡ gathered op r w (suc m) i
     pub lengths : z .lengths ≡ passing (leading? w (suc m)) len
     pub union : z .union ≡ joinAll op (λ x. gathered op r w (suc m) (suc m - x)) a (z .lengths)
 
   -- at length 0 all is done
-  stopped : (G : List ℕ) (a : ℕ) → At 0 G → Right 0 a (walked G a [])
+  walk-stop : (G : List ℕ) (a : ℕ) → WalkAt 0 G → WalkRight 0 a (walked G a [])
   unfolding passing joinAll
-  stopped G a h = record { all = λ i l. h .done i (omega arith); lengths = refl; union = refl }
+  walk-stop G a h = record { all = λ i l. h .done i (omega arith); lengths = refl; union = refl }
 
-  pub walks : (k len : ℕ) (G : List ℕ) (a : ℕ) → len ≤ k → Leading w (suc m) len → At len G → Right len a (walk op R N (suc m) k len G a)
+  pub walk-right : (k len : ℕ) (G : List ℕ) (a : ℕ) → len ≤ k → Leading w (suc m) len → WalkAt len G → WalkRight len a (walk op R N (suc m) k len G a)
   unfolding walk joinAll
-  walks zero zero G a h L at = stopped G a at
-  walks zero (suc x) G a h L at = absurd (omega arith)
-  walks (suc k) zero G a h L at = stopped G a at
-  walks (suc k) (suc x) G a h L g =
+  walk-right zero zero G a h L at = walk-stop G a at
+  walk-right zero (suc x) G a h L at = absurd (omega arith)
+  walk-right (suc k) zero G a h L at = walk-stop G a at
+  walk-right (suc k) (suc x) G a h L g =
       let some : 0 < suc x = omega arith in
       let p : ℕ = periodOf N (suc m) (suc x) in
       let t : LeastPeriod w (suc m) (suc x) p = tells (suc x) some L in
@@ -180,8 +180,8 @@ module _ (op : ℕ → ℕ → ℕ) (r w : ℕ → ℕ) (m : ℕ) (R N : List �
       let i : ℕ = suc m - suc x in
       let v : ℕ = mended op (at R) (suc m) (suc x) p (at G i) in
       let new : v ≡ gathered op r w (suc m) i = mends (suc x) p some L t i (at G i) (omega arith) (g .todo i (omega arith) (omega arith)) in
-      let rest = walks k (nextLeading (suc x) p) (set G i v) (op a v) (fewer (walk-less N (suc m) (suc x) some) h) (next-is L t some .is)
-      (step (suc x) p some L t G i v (omega arith) new g) in
+      let rest = walk-right k (nextLeading (suc x) p) (set G i v) (op a v) (fewer (walk-less N (suc m) (suc x) some) h) (next-is L t some .is)
+      (walk-step (suc x) p some L t G i v (omega arith) new g) in
       record {
         all = rest .all;
         lengths = ap (λ s. suc x ∷ s) (rest .lengths) ∙ sym (lengths-step (suc x) p some L t x refl);

@@ -2,7 +2,7 @@
 use mathlib.Core.Path.{_≡_, refl, sym, ap, subst, _∙_}
 use mathlib.Core.Logic.{_↔_}
 use mathlib.Core.List.{List, [], _∷_, List·Memᴰ, List·Memᴰ·head, List·Memᴰ·tail}
-use Prim.Native.Nat.{ℕ, zero, suc, _+_, _-_, _≤_, _<_}
+use Prim.Native.Nat.{ℕ, zero, suc, _+_, _≤_, _<_}
 use native.Mathlib.Omega.{arith}
 use native.Mathlib.Decide.{decLt, decLe, ℕ-discrete}
 use Rattle.words.specs.Definitions.{Largest, Smallest, Falling, empty, above}
@@ -104,13 +104,13 @@ module _ {P : ℕ → Type 0} (d : (i : ℕ) → Dec (P i)) where
       go (yes q) e = absurd (f q)
       go (no g) e = rw (e, passing)
 
-  -- nothing from a + 1 to b has P
+  -- numbers in between that have not P change nothing
   pub passing-skip : (a b : ℕ) → a ≤ b → ((x : ℕ) → a < x → x ≤ b → P x → ⊥) → passing b ≡ passing a
-  passing-skip a b l f = let z : a + (b - a) ≡ b = omega arith in ap passing (sym z) ∙ go (b - a) (λ x g h. f x g (omega arith))
-    where
-      go : (k : ℕ) → ((x : ℕ) → a < x → x ≤ a + k → P x → ⊥) → passing (a + k) ≡ passing a
-      go zero g = ap passing (omega arith)
-      go (suc k) g = let z : a + suc k ≡ suc (a + k) = omega arith in rw z (passing-without (a + k) (g (suc (a + k)) (omega arith) (omega arith)) ∙ go k (λ x i j. g x i (omega arith)))
+  passing-skip a zero l f = ap passing (omega arith)
+  passing-skip a (suc b) l f = elim (decLe a b) [
+    | yes y ↦ passing-without b (f (suc b) (omega arith) (omega arith)) ∙ passing-skip a b y (λ x h m. f x h (omega arith))
+    | no y ↦ ap passing (omega arith)
+  ]
 
   -- what is listed has P, all that has P is listed, and the list falls
   pub record Passing (b : ℕ) (s : List ℕ) : Type 0 where

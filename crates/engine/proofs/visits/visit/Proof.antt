@@ -1,7 +1,7 @@
 use mathlib.Core.Path.{refl}
 use native.Mathlib.Omega.{arith}
 use lib.Bits.{bitOr}
-use Rattle.models.specs.Turns.{mended-own, mended-joined, visit-as, thrice}
+use Rattle.models.specs.Turns.{mended-short, mended-long, visit-as, thrice}
 use borrow.Author.Needs.{needs}
 use Rattle.engine.proofs.visits.visit.Statement.{statement}
 use Rattle.engine.proofs.visits.visit.Tie as tie
@@ -16,7 +16,7 @@ returns c =
     let p = q .before .args in
     visit-as (p .rows .now) (p .next .now) (p .gathered .now) _ (p .n) (p .len) (q .period-of .result) _ (o .at-place .result) (i .minus .result)
     (q .period-of .ensures .0) (d .next-leading .ensures)
-    (mended-own (p .rows .now) (p .gathered .now) (p .n) (p .len) (q .period-of .result) (i .minus .result) _ (i .minus .ensures)
+    (mended-short (p .rows .now) (p .gathered .now) (p .n) (p .len) (q .period-of .result) (i .minus .result) _ (i .minus .ensures)
     (omega (arith, t .if1 .taken)) (omega (arith, o .at-place .ensures)))
     (i .minus .ensures) (c .store-at-place .ensures)
 
@@ -33,7 +33,7 @@ returns-2 c =
     let p = q .before .args in
     visit-as (p .rows .now) (p .next .now) (p .gathered .now) _ (p .n) (p .len) (q .period-of .result) _ _ (i .minus .result)
     (q .period-of .ensures .0) (d .next-leading .ensures)
-    (mended-joined (p .rows .now) (p .gathered .now) (p .n) (p .len) (q .period-of .result) (i .minus .result)
+    (mended-long (p .rows .now) (p .gathered .now) (p .n) (p .len) (q .period-of .result) (i .minus .result)
     (bitOr (a .at-place2 .result) (b .at-place3 .result)) (i .minus .ensures)
     (d .next-leading .result) (j .minus3 .result) (a .at-place2 .result) (b .at-place3 .result) (omega (arith, t .if1 .left))
     (d .next-leading .ensures)

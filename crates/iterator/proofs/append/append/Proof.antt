@@ -1,7 +1,7 @@
 use mathlib.Core.Path.{_∙_}
 use native.Mathlib.Omega.{arith}
 use Rattle.models.specs.Iterator.{links}
-use Rattle.models.specs.Answers.{appends-letter}
+use Rattle.models.specs.Answers.{letter-promised}
 use Rattle.models.specs.Turns.{appended-as}
 use borrow.Author.Needs.{needs}
 use Rattle.iterator.proofs.append.append.Statement.{statement}
@@ -18,15 +18,13 @@ returns c =
     let s = a .before .before in
     let f = s .before in
     let e = f .before .before .before .before .before in
-    let p = e .args in (
-      appends-letter (p .n) (p .pick) _ _ (e .pre)
-          (appended-as (p .n) (p .pick) (p .stored .0) (f .longest .result .0) (s .scan .result .0) (i .lost-place .result .0) (w .wide .result)
-          (p .letters .now) (p .radius .now) (p .heads .now) (p .lends .now) (p .next .now) (p .prev .now) _ _ _ _
-          (links (l1 .link .last .0) (l1 .link .last .1 .0)) (links (l2 .link2 .last .0) (l2 .link2 .last .1 .0)) _
-          (f .longest .ensures .computes) (s .scan .ensures .0) (a .store-letter .ensures) (l1 .link .ensures) (l2 .link2 .ensures)
-          (i .lost-place .ensures) (w .wide .ensures ∙ x .at-place .ensures) (c .unlinks .ensures)),
-      omega (arith, s .scan .ensures .1),
-    )
+    let p = e .args in
+    letter-promised (p .n) (p .pick) _ _ (e .pre)
+    (appended-as (p .n) (p .pick) (p .stored .0) (f .longest .result .0) (s .scan .result .0) (i .lost-place .result .0) (w .wide .result)
+    (p .letters .now) (p .radius .now) (p .heads .now) (p .lends .now) (p .next .now) (p .prev .now) _ _ _ _
+    (links (l1 .link .last .0) (l1 .link .last .1 .0)) (links (l2 .link2 .last .0) (l2 .link2 .last .1 .0)) _
+    (f .longest .ensures .computes) (s .scan .ensures .0) (a .store-letter .ensures) (l1 .link .ensures) (l2 .link2 .ensures)
+    (i .lost-place .ensures) (w .wide .ensures ∙ x .at-place .ensures) (c .unlinks .ensures))
 
 pub append-spec : {M : Type 1} → statement M
 append-spec =

@@ -1,6 +1,6 @@
 use mathlib.Core.Path.{sym, _∙_}
 use native.Mathlib.Omega.{arith}
-use Rattle.models.specs.Answers.{next-is}
+use Rattle.models.specs.Answers.{next-promised}
 use Rattle.models.specs.Turns.{next-there, next-missing}
 use borrow.Author.Needs.{needs}
 use Rattle.iterator.proofs.reading.next_shorter.Statement.{statement}
@@ -13,7 +13,7 @@ returns c =
     let e = t .before in
     let l = e .before in
     let p = l .before .args in
-    next-is (p .radius .now) (p .next .now) (p .n) (p .stored .0) (p .c .0) _
+    next-promised (p .radius .now) (p .next .now) (p .n) (p .stored .0) (p .c .0) _
     (next-there (p .radius .now) (p .next .now) (p .n) (p .stored .0) (l .longest .result .0) (p .c .0) (a .at-centre .result) (c .wide .result)
     (l .longest .ensures .computes) (sym (e .is-ending .ensures) ∙ t .if1 .taken) (a .at-centre .ensures) (c .wide .ensures))
 
@@ -22,7 +22,7 @@ returns-2 c =
     let e = c .before in
     let l = e .before in
     let p = l .before .args in
-    next-is (p .radius .now) (p .next .now) (p .n) (p .stored .0) (p .c .0) _
+    next-promised (p .radius .now) (p .next .now) (p .n) (p .stored .0) (p .c .0) _
     (next-missing (p .radius .now) (p .next .now) (p .n) (p .stored .0) (l .longest .result .0) (p .c .0) (l .longest .ensures .computes)
     (sym (e .is-ending .ensures) ∙ c .if1 .left))
 

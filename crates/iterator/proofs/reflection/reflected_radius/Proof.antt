@@ -1,8 +1,8 @@
 use native.Mathlib.Omega.{arith}
 use Rattle.models.specs.Turns.{reflected-as}
 use borrow.Author.Needs.{needs}
-use Rattle.iterator.proofs.reading.reflected_radius.Statement.{statement}
-use Rattle.iterator.proofs.reading.reflected_radius.Tie as tie
+use Rattle.iterator.proofs.reflection.reflected_radius.Statement.{statement}
+use Rattle.iterator.proofs.reflection.reflected_radius.Tie as tie
 
 returns : tie.Need-returns
 returns c =
