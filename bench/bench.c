@@ -1,55 +1,59 @@
-// Times the library's append beside the plain C one on drafts of 2,048 picks with K = 8. Each line: the draft, the
+// Times the library's feed beside the plain C one on drafts of 2,048 picks with K = 8. Each line: the draft, the
 // nanoseconds for a pick of the library and of plain C, and their ratio. The last line is the largest ratio. Exit
-// status 1, with what and where, where the two differ in a row word, a gathered word or a visit.
+// status 1, with what and where, where the two differ in a mask, a row word, a gathered word or a visit.
 #include <stdio.h>
 #include <string.h>
 #include <time.h>
 
 #include "plain.h"
 
-// The library's append. A slice is its pointer and its length.
-size_t drive_append(uint8_t *letters, uint16_t *radius, uint16_t *heads, uint16_t *lends, uint16_t *next,
-                    uint16_t *prev, uint16_t *rows, uint16_t *gathered, uint16_t *visits, size_t visits_len, size_t n,
-                    uint8_t k, size_t longest, uint8_t pick, size_t *answer);
+// The library's script of calls. A slice is its pointer and its length.
+size_t drive(uint8_t *letters, uint16_t *radius, uint16_t *heads, uint16_t *lends, uint16_t *next, uint16_t *prev,
+             uint16_t *rows, uint16_t *gathered, size_t *numbers, const uint8_t *script, size_t script_len,
+             uint16_t *lists, size_t lists_len, uint8_t *bytes, size_t bytes_len, size_t *answers, size_t answers_len);
 
-enum { ROUNDS = 20000 };
+enum { ROUNDS = 20000, CALL = 6, ANSWER = 3, FEED = 1 };
 
+// A stored state, and what a whole draft gives: for each pick its visits, and three numbers.
 struct state {
     uint8_t letters[MOST_PICKS];
     uint16_t radius[CENTRES], heads[PLACES], lends[CENTRES], next[CENTRES], prev[CENTRES];
-    uint16_t rows[PLACES], gathered[PLACES], visits[MOST_VISITS];
-    size_t longest, answer[3];
+    uint16_t rows[PLACES], gathered[PLACES];
+    size_t numbers[3];
+    uint16_t lists[MOST_PICKS][MOST_VISITS];
+    size_t answers[MOST_PICKS][ANSWER];
+};
+
+// A script that feeds a draft, each pick with a visit list of its own.
+struct script {
+    uint8_t calls[MOST_PICKS][CALL];
+    uint8_t draft[MOST_PICKS];
 };
 
 // Makes the state that of an empty draft.
 static void clear(struct state *s) {
     memset(s, 0, sizeof *s);
     s->rows[0] = s->gathered[0] = 1;
-    s->longest = 1;
+    s->numbers[1] = MOST_SECTIONS;
+    s->numbers[2] = 1;
 }
 
-static inline size_t by_library(struct state *s, size_t n, uint8_t pick) {
-    size_t taken = drive_append(s->letters, s->radius, s->heads, s->lends, s->next, s->prev, s->rows, s->gathered,
-                                s->visits, MOST_VISITS, n, MOST_SECTIONS, s->longest, pick, s->answer);
-    s->longest = s->answer[2];
-    return taken;
+static void feed_library(struct state *s, const struct script *script) {
+    drive(s->letters, s->radius, s->heads, s->lends, s->next, s->prev, s->rows, s->gathered, s->numbers,
+          script->calls[0], sizeof script->calls, s->lists[0], MOST_PICKS * MOST_VISITS, NULL, 0, s->answers[0],
+          MOST_PICKS * ANSWER);
 }
 
-static inline size_t by_plain(struct state *s, size_t n, uint8_t pick) {
-    size_t taken = plain_append(s->letters, s->radius, s->heads, s->lends, s->next, s->prev, s->rows, s->gathered,
-                                s->visits, n, MOST_SECTIONS, s->longest, pick, s->answer);
-    s->longest = s->answer[2];
-    return taken;
-}
-
-static void feed_library(struct state *s, const uint8_t *draft) {
-    for (size_t n = 0; n < MOST_PICKS; n++)
-        by_library(s, n, draft[n]);
-}
-
-static void feed_plain(struct state *s, const uint8_t *draft) {
-    for (size_t n = 0; n < MOST_PICKS; n++)
-        by_plain(s, n, draft[n]);
+static void feed_plain(struct state *s, const struct script *script) {
+    for (size_t n = 0; n < MOST_PICKS; n++) {
+        size_t answer[ANSWER];
+        plain_append(s->letters, s->radius, s->heads, s->lends, s->next, s->prev, s->rows, s->gathered, s->lists[n], n,
+                     MOST_SECTIONS, s->numbers[2], script->draft[n], answer);
+        s->numbers[0] = n + 1;
+        s->numbers[2] = answer[2];
+        s->answers[n][1] = answer[0] / 2;
+        s->answers[n][2] = answer[1];
+    }
 }
 
 static double now(void) {
@@ -59,11 +63,11 @@ static double now(void) {
 }
 
 // Seconds for one draft. Clearing is not timed.
-static double one_draft(void (*feed)(struct state *, const uint8_t *), const uint8_t *draft) {
+static double one_draft(void (*feed)(struct state *, const struct script *), const struct script *script) {
     static struct state s;
     clear(&s);
     double begun = now();
-    feed(&s, draft);
+    feed(&s, script);
     return now() - begun;
 }
 
@@ -85,35 +89,36 @@ static int list_differs(const char *name, size_t pick, const char *what, size_t 
 }
 
 // The same for the answers to a pick and its visits.
-static int pick_differs(const char *name, size_t pick, const struct state *library, const struct state *plain) {
-    return differs(name, pick, "row word", pick, library->answer[0], plain->answer[0]) ||
-           differs(name, pick, "count of visits", pick, library->answer[1], plain->answer[1]) ||
-           differs(name, pick, "longest centre", pick, library->answer[2], plain->answer[2]) ||
-           list_differs(name, pick, "visit", MOST_VISITS, library->visits, plain->visits);
+static int pick_differs(const char *name, size_t n, const struct state *library, const struct state *plain) {
+    return differs(name, n + 1, "refused", n + 1, library->answers[n][0], plain->answers[n][0]) ||
+           differs(name, n + 1, "mask", n + 1, library->answers[n][1], plain->answers[n][1]) ||
+           differs(name, n + 1, "count of visits", n + 1, library->answers[n][2], plain->answers[n][2]) ||
+           list_differs(name, n + 1, "visit", MOST_VISITS, library->lists[n], plain->lists[n]);
 }
 
-// The same for a whole draft, pick by pick, and the words it leaves.
-static int draft_differs(const char *name, const uint8_t *draft) {
+// The same for a whole draft, pick by pick, and what it leaves.
+static int draft_differs(const char *name, const struct script *script) {
     static struct state library, plain;
     clear(&library);
     clear(&plain);
-    for (size_t n = 0; n < MOST_PICKS; n++) {
-        size_t taken = by_library(&library, n, draft[n]);
-        if (differs(name, n + 1, "taken", n + 1, taken, by_plain(&plain, n, draft[n])) ||
-            pick_differs(name, n + 1, &library, &plain))
+    feed_library(&library, script);
+    feed_plain(&plain, script);
+    for (size_t n = 0; n < MOST_PICKS; n++)
+        if (pick_differs(name, n, &library, &plain))
             return 1;
-    }
-    return list_differs(name, MOST_PICKS, "row word", PLACES, library.rows, plain.rows) ||
+    return differs(name, MOST_PICKS, "picks", 0, library.numbers[0], plain.numbers[0]) ||
+           differs(name, MOST_PICKS, "longest centre", 0, library.numbers[2], plain.numbers[2]) ||
+           list_differs(name, MOST_PICKS, "row word", PLACES, library.rows, plain.rows) ||
            list_differs(name, MOST_PICKS, "gathered word", PLACES, library.gathered, plain.gathered);
 }
 
 // Times both versions in turn, draft by draft, and gives the ratio of their best drafts: other work on the machine slows
 // some drafts and no best one.
-static double measure(const char *name, const uint8_t *draft) {
+static double measure(const char *name, const struct script *script) {
     double library = 1, plain = 1;
     for (int round = 0; round < ROUNDS; round++) {
-        double by_l = one_draft(feed_library, draft);
-        double by_p = one_draft(feed_plain, draft);
+        double by_l = one_draft(feed_library, script);
+        double by_p = one_draft(feed_plain, script);
         library = by_l < library ? by_l : library;
         plain = by_p < plain ? by_p : plain;
     }
@@ -143,25 +148,37 @@ static void fibonacci(uint8_t *draft) {
     }
 }
 
+// The calls that feed the script's draft.
+static void write_calls(struct script *script) {
+    for (size_t n = 0; n < MOST_PICKS; n++) {
+        uint8_t *call = script->calls[n];
+        call[0] = FEED;
+        call[1] = script->draft[n];
+        call[4] = MOST_VISITS;
+    }
+}
+
 int main(void) {
     static const char *const names[] = {"all A", "alternating AB", "random over 26 letters", "Fibonacci word"};
-    static uint8_t drafts[4][MOST_PICKS];
+    static struct script scripts[4];
     uint64_t seed = 26;
     for (size_t i = 0; i < MOST_PICKS; i++) {
-        drafts[0][i] = 'A';
-        drafts[1][i] = "AB"[i % 2];
-        drafts[2][i] = random_letter(&seed);
+        scripts[0].draft[i] = 'A';
+        scripts[1].draft[i] = "AB"[i % 2];
+        scripts[2].draft[i] = random_letter(&seed);
     }
-    fibonacci(drafts[3]);
+    fibonacci(scripts[3].draft);
 
     int wrong = 0;
-    for (int i = 0; i < 4; i++)
-        wrong |= draft_differs(names[i], drafts[i]);
+    for (int i = 0; i < 4; i++) {
+        write_calls(&scripts[i]);
+        wrong |= draft_differs(names[i], &scripts[i]);
+    }
     if (wrong)
         return 1;
     double largest = 0;
     for (int i = 0; i < 4; i++) {
-        double ratio = measure(names[i], drafts[i]);
+        double ratio = measure(names[i], &scripts[i]);
         largest = ratio > largest ? ratio : largest;
     }
     printf("largest ratio %.2f\n", largest);

@@ -53,7 +53,7 @@ impl Fast {
     }
 
     /// K.
-    pub(crate) fn most_sections(&self) -> usize {
+    pub fn most_sections(&self) -> usize {
         self.most_sections
     }
 

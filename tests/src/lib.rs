@@ -5,17 +5,25 @@
 //! `fast` answers the same questions for drafts of 2,048 picks by tables.
 //! `calls` holds the ten calls with their refusals, and `book` the plain book.
 //! `draft` is the draft program as a function from bytes to bytes.
-//! `samples` and `structured` make the drafts that tests are run on.
-//! `library` calls the proved core, by the static library.
+//! `samples` and `structured` make the drafts that tests are run on, and `full_drafts`
+//! names those of 2,048 picks.
+//! `scripted` names the calls with their arguments, and `library` makes them on the
+//! proved board, by its static library.
+//! `beside` keeps the book beside that board, and `listed` holds the refusals that do
+//! not hang on the letters.
 
+pub mod beside;
 pub mod book;
 pub mod calls;
 pub mod draft;
 pub mod fast;
+pub mod full_drafts;
 pub mod library;
+pub mod listed;
 mod memo;
 pub mod plain;
 pub mod samples;
+pub mod scripted;
 pub mod structured;
 
 /// "A draft has 0 to 2,048 picks."

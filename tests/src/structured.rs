@@ -1,4 +1,4 @@
-//! Drafts of a known structure, long enough for the core's arrays.
+//! Drafts of a known structure, long enough for the board's arrays.
 
 use crate::samples::Generator;
 use crate::FIRST_PICK;
@@ -91,12 +91,13 @@ pub fn come_back_to(generator: &mut Generator, u: &[u8], v: &[u8], length: usize
     draft
 }
 
-/// A series of exactly three long periods and a short end: its first place gathers a
-/// word at two periods, and comes back to it a whole period later.
-pub fn long_cube(generator: &mut Generator, length: usize) -> Vec<u8> {
-    let u = palindrome(generator, 2, length % 3 + 30);
-    let v = palindrome(generator, 2, (length - u.len()) / 3 - u.len());
-    series(&u, &v, 3)
+/// A series of so many long periods and a short end, where the number divides 30. Its
+/// first place gathers a word at two periods, and comes back to it a whole period
+/// later, again and again.
+pub fn long_periods(generator: &mut Generator, times: usize, length: usize) -> Vec<u8> {
+    let u = palindrome(generator, 2, length % times + 30);
+    let v = palindrome(generator, 2, (length - u.len()) / times - u.len());
+    series(&u, &v, times)
 }
 
 /// A walk that goes on with some period and now and then breaks it or turns back.

@@ -16,6 +16,14 @@ pub const PICKS: usize = 2048;
 // The most sections asked for (document 01, "K, chosen at the start, is 1 to 8").
 pub const SECTIONS: u8 = 8;
 
+// The fewest entries of a visit list (document 01, "Visit list under 19 entries").
+pub const VISITS: usize = 19;
+
+// The letters of a pick (document 01, "A pick is one byte, A to Z (65 to 90)").
+pub const FIRST_LETTER: u8 = 65;
+
+pub const LAST_LETTER: u8 = 90;
+
 // A letter for each place that a pick follows; a number for each place; a number for each centre.
 pub type Letters = [u8; PICKS];
 
@@ -66,7 +74,7 @@ pub fn within(top: usize, x: usize) -> usize
 
 // Slices
 
-fn at(s: &[u16], i: usize) -> u16
+pub fn at(s: &[u16], i: usize) -> u16
     ensures { λ r. ⌜ r ≡ getD (now (s .entry)) i 0 ⌝ }
 {
     if i < s.len() { s[i] } else { 0 }
@@ -80,13 +88,13 @@ pub fn store(s: &mut [u16], i: usize, v: u16)
     }
 }
 
-fn byte_at(s: &[u8], i: usize) -> u8
+pub fn byte_at(s: &[u8], i: usize) -> u8
     ensures { λ r. ⌜ r ≡ getD (now (s .entry)) i 0 ⌝ }
 {
     if i < s.len() { s[i] } else { 0 }
 }
 
-fn store_byte(s: &mut [u8], i: usize, v: u8)
+pub fn store_byte(s: &mut [u8], i: usize, v: u8)
     ensures { λ r. ⌜ now (s .exit) ≡ set (now (s .entry)) i v ⌝ }
 {
     if i < s.len() {

@@ -1,73 +1,49 @@
--- What the exported functions give, on any numbers.
-use mathlib.Core.Path.{_≡_, ap}
-use mathlib.Core.Bool.{Bool, true, false}
-use mathlib.Core.List.{List, [], _∷_}
-use mathlib.Core.Option.{Option, some, none}
-use Prim.Native.Nat.{ℕ, _≤_, _<_}
-use native.Mathlib.Omega.{arith}
-use lib.Seq.{sets}
-use Rattle.words.specs.Definitions.{mostPicks, mostSections}
-use Rattle.models.specs.Core.{Arrays, after, Appends}
-use Rattle.models.specs.Answers.{RadiusIs, LongestIs, NextIs}
+-- What `drive` does: the contract that its declaration cites.
+use mathlib.Core.Path.{_≡_}
+use mathlib.Core.List.{List, [], _∷_, _++_}
+use Prim.Native.Nat.{ℕ, _/_, _%_}
+use lib.ListN.{length, getD}
+use Rattle.promises.specs.declared.Draft.{Draft}
+use Rattle.promises.specs.Answers.{Said, gave, refused}
+use Rattle.promises.specs.Replies.{filled}
+use Rattle.promises.specs.Holds.{draftOf}
+use Rattle.promises.specs.Runs.{Made, callOf, calls, replyOf, Run, last}
+use Rattle.drive.specs.Script.{fromLists, fromBytes, asked}
 
--- one pick more was taken: vs₀ and ans₀ are the visit list and the answer before, vs and ans afterwards;
--- a are the arrays before, b s afterwards, s being the longest ending's centre
-pub record Taken (K n pick : ℕ) (vs₀ vs ans₀ ans : List ℕ) (r : ℕ) (a : Arrays) (b : ℕ → Arrays) : Type 0 where
-  pub one : r ≡ 1
-  pub row : ℕ
-  pub count : ℕ
-  pub s : ℕ
-  pub answer : ans ≡ sets ans₀ 0 (row ∷ count ∷ s ∷ [])
-  pub appends : Appends K n pick a vs₀ (after (b s) vs row count)
+-- The state that the arrays and the numbers are: n, K and the centre of the longest ending. K is read modulo 256, at entry and at exit.
+abbrev pub stateOf : (numbers letters radius heads lends next prev rows gathered : List ℕ) → Draft
+stateOf numbers letters radius heads lends next prev rows gathered =
+    draftOf (getD numbers 0 0) (getD numbers 1 0 % 256) (getD numbers 2 0) letters radius heads lends next prev rows gathered
 
--- nothing was changed
-pub record Kept (vs₀ vs ans₀ ans : List ℕ) (r : ℕ) (a : Arrays) (b : ℕ → Arrays) : Type 0 where
-  pub none : r ≡ 0
-  pub arrays : b (a .iterator .longest) ≡ a
-  pub visits : vs ≡ vs₀
-  pub answer : ans ≡ ans₀
+-- An answer in three numbers: 0 and the values given, or 1 and the number under which it refuses; 0 where there is none
+abbrev pub encoded : Said → List ℕ
+encoded (gave values) = 0 ∷ getD values 0 0 ∷ getD values 1 0 ∷ []
+encoded (refused number) = 1 ∷ number ∷ 0 ∷ []
 
--- the numbers with which one pick more can be taken
-abbrev pub InRange : ℕ → ℕ → Type 0
-InRange K n = (n < mostPicks) × (1 ≤ K) × (K ≤ mostSections)
+-- what a call left of each of the lent lists
+abbrev pub answersOf : Made → List ℕ
+answersOf m = encoded (replyOf m .said)
 
--- r tells whether they are
-pub record Ranged (K n : ℕ) (r : Bool) : Type 0 where
-  pub within : r ≡ true → InRange K n
-  pub outside : r ≡ false → InRange K n → ⊥
+abbrev pub entriesOf : Made → List ℕ
+entriesOf m = fromLists (callOf m) (replyOf m .list)
 
-pub record Drives (K n pick : ℕ) (vs₀ vs ans₀ ans : List ℕ) (r : ℕ) (a : Arrays) (b : ℕ → Arrays) : Type 0 where
-  pub takes : InRange K n → Taken K n pick vs₀ vs ans₀ ans r a b
-  pub keeps : (InRange K n → ⊥) → Kept vs₀ vs ans₀ ans r a b
+abbrev pub bytesOf : Made → List ℕ
+bytesOf m = fromBytes (callOf m) (replyOf m .list)
 
-pub record RadiusNumber (R : List ℕ) (n s c r : ℕ) : Type 0 where
-  pub fits : n ≤ mostPicks → RadiusIs R n s c r
-  pub past : mostPicks < n → r ≡ 0
+-- one behind the other
+unfoldable pub joined : (Made → List ℕ) → List Made → List ℕ
+joined f [] = []
+joined f (m ∷ ms) = f m ++ joined f ms
 
-pub record LongestNumber (n s r : ℕ) : Type 0 where
-  pub fits : n ≤ mostPicks → LongestIs n s r
-  pub past : mostPicks < n → r ≡ 0
-
--- the centre, 0 if there is none
-abbrev pub orZero : Option ℕ → ℕ
-orZero none = 0
-orZero (some c) = c
-
-pub record NextNumber (R N : List ℕ) (n s c r : ℕ) : Type 0 where
-  pub fits : n ≤ mostPicks → (o : Option ℕ) × NextIs R N n s c o × (r ≡ orZero o)
-  pub past : mostPicks < n → r ≡ 0
-
--- By cases
-
-pub ranged-outside : {K n : ℕ} → (InRange K n → ⊥) → Ranged K n false
-ranged-outside f = record {
-  within = λ e. let z : _≡_ {A = ℕ} 0 1 = ap (λ b. elim b [ true ↦ 1 | false ↦ 0 ]) e in absurd (omega arith);
-  outside = λ _. f;
-}
-
-module _ {K n pick : ℕ} {vs₀ vs ans₀ ans : List ℕ} {r : ℕ} {a : Arrays} {b : ℕ → Arrays} where
-  pub drives-taken : InRange K n → Taken K n pick vs₀ vs ans₀ ans r a b → Drives K n pick vs₀ vs ans₀ ans r a b
-  drives-taken h t = record { takes = λ _. t; keeps = λ f. absurd (f h) }
-
-  pub drives-kept : (InRange K n → ⊥) → Kept vs₀ vs ans₀ ans r a b → Drives K n pick vs₀ vs ans₀ ans r a b
-  drives-kept f k = record { takes = λ h. absurd (f h); keeps = λ _. k }
+-- d is the state at entry, e at exit; lists, bytes and answers are as at entry, then as at exit
+pub record Drives (d : Draft) (script lists bytes answers : List ℕ) (count : ℕ) (e : Draft) (lists' bytes' answers' : List ℕ) : Type 0 where
+  -- the calls made: a run from the state at entry, so what Demands.antt says of every run is said of them
+  pub made : List Made
+  pub run : Run d made
+  pub asks : calls made ≡ asked (length answers / 3) script lists bytes
+  pub counts : count ≡ length made
+  pub state : e ≡ last d made
+  -- what they left stands at the front of each lent list; the rest of the list is as it was
+  pub entries : lists' ≡ filled (joined entriesOf made) lists
+  pub output : bytes' ≡ filled (joined bytesOf made) bytes
+  pub told : answers' ≡ filled (joined answersOf made) answers

@@ -1,61 +1,94 @@
-// The core for tests and benchmarks in other languages: total on any numbers, since no proof binds a foreign caller.
+// Document 01's calls for a host: a script of calls on a state in lent arrays, a section shown, a lift.
+// No proof binds a host, so these functions take any contents.
 ghost use mathlib.Core.Path.{_≡_};
+ghost use mathlib.Core.Bool.{true};
 ghost use mathlib.Core.List.{[], _∷_};
+ghost use Prim.Native.Nat.{_+_, _≤_, _<_};
+ghost use lib.ListN.{length, take};
 ghost use lib.Seq.{sets};
-ghost use Rattle.models.specs.Core.{arrays};
-ghost use Rattle.iterator.specs.Says.{shorterSays};
-ghost use Rattle.drive.specs.Drives.{Ranged, Drives, RadiusNumber, LongestNumber, NextNumber, orZero};
+ghost use Rattle.promises.specs.Refusals.{showRefusal};
+ghost use Rattle.promises.specs.Replies.{shown, liftReply};
+ghost use Rattle.drive.specs.Told.{numbersOf};
+ghost use Rattle.drive.specs.Drives.{stateOf, encoded, Drives};
+ghost use Rattle.drive.specs.Turns.{cursor, calledAt, Room, Settles, Turned};
+
+mod make;
+mod request;
+mod told;
+
+use crate::make::Turn;
+use crate::make::make;
+use crate::request::request_at;
+use crate::told::Told;
+use crate::told::lift_told;
 use cells::ByCentre;
 use cells::ByPlace;
-use cells::Centre;
 use cells::Letters;
-use cells::PICKS;
-use cells::SECTIONS;
-use cells::wide;
-use engine::append::Appended;
-use engine::append::append;
-use iterator::reading::Shorter;
-use iterator::reading::longest;
-use iterator::reading::next_shorter;
-use iterator::reading::radius_at;
+use cells::store_byte;
 
-fn number_of(o: Shorter) -> usize
-    ensures { λ r. ⌜ r ≡ orZero (shorterSays o) ⌝ }
+// How far the script has been followed: the calls made, and the entries and bytes lent to them; on until it ends.
+struct Cursor {
+    on: bool,
+    made: usize,
+    listed: usize,
+    written: usize,
+}
+
+// Before the first call.
+fn outset() -> Cursor
+    ensures { λ r. ⌜ r ≡ cursor true 0 0 0 ⌝ }
 {
-    match o {
-        Shorter::At(c) => c.0,
-        Shorter::Missing => 0,
+    Cursor {
+        on: true,
+        made: 0,
+        listed: 0,
+        written: 0,
     }
 }
 
-// Whether one pick more can be taken.
-fn in_range(n: usize, k: u8) -> bool
-    ensures { λ r. ⌜ Ranged k n r ⌝ }
+// A byte as a number.
+fn wide(x: u8) -> usize
+    ensures { λ r. ⌜ (r ≡ x) × (r < 256) ⌝ }
 {
-    if n < PICKS {
-        if 1 <= k {
-            return k <= SECTIONS;
-        }
+    x as usize
+}
+
+// The three numbers of an answer.
+fn tell(answers: &mut [usize], at: usize, told: Told)
+    requires { ⌜ at + 3 ≤ length (now answers) ⌝ }
+    ensures { λ r. ⌜ now (answers .exit) ≡ sets (now (answers .entry)) at (numbersOf told) ⌝ }
+{
+    answers[at] = told.kind;
+    answers[at + 1] = told.first;
+    answers[at + 2] = told.second;
+}
+
+// After a turn: the numbers of the state and the answer are stored, where a call was made.
+fn settle(numbers: &mut [usize; 3], answers: &mut [usize], at: Cursor, t: Turn) -> Cursor
+    requires { ⌜ (t .made ≡ true → Room (now answers) at t) ⌝ }
+    ensures { λ r. ⌜ Settles (now (numbers .entry)) (now (answers .entry)) at t r (now (numbers .exit)) (now (answers .exit)) ⌝ }
+{
+    if t.made {
+        *numbers = [t.n, wide(t.k), t.longest];
+        let told = t.told;
+        tell(answers, 3 * at.made, told);
+        return Cursor {
+            on: true,
+            made: at.made + 1,
+            listed: at.listed + t.entries,
+            written: at.written + t.output,
+        };
     }
-    false
+    Cursor {
+        on: false,
+        made: at.made,
+        listed: at.listed,
+        written: at.written,
+    }
 }
 
-// Fills the answer, and gives 1.
-fn give(answer: &mut [usize; 3], a: Appended) -> usize
-    ensures { λ r. ⌜ r ≡ 1 ⌝ }
-    ensures filled { λ r. ⌜ now (answer .exit) ≡ sets (now (answer .entry)) 0 (a .row ∷ a .count ∷ a .longest .0 ∷ []) ⌝ }
-{
-    let s = a.longest;
-    answer[0] = wide(a.row);
-    answer[1] = a.count;
-    answer[2] = s.0;
-    1
-}
-
-// One pick more. The answer is the row word, the count of visits and the longest ending's centre.
-// 1 where n is below 2,048 and k is 1 to 8; else 0, and nothing is changed.
-#[no_mangle]
-pub extern "C" fn drive_append(
+// The next call of the script, if there is one.
+fn turn(
     letters: &mut Letters,
     radius: &mut ByCentre,
     heads: &mut ByPlace,
@@ -64,19 +97,61 @@ pub extern "C" fn drive_append(
     prev: &mut ByCentre,
     rows: &mut ByPlace,
     gathered: &mut ByPlace,
-    visits: &mut [u16],
-    n: usize,
-    k: u8,
-    stored: usize,
-    pick: u8,
-    answer: &mut [usize; 3],
-) -> usize
-    ensures { λ r. ⌜ Drives k n pick (now (visits .entry)) (now (visits .exit)) (now (answer .entry)) (now (answer .exit)) r
-        (arrays (now (letters .entry)) (now (radius .entry)) (now (heads .entry)) (now (lends .entry)) (now (next .entry)) (now (prev .entry)) stored (now (rows .entry)) (now (gathered .entry)))
-        (λ s. arrays (now (letters .exit)) (now (radius .exit)) (now (heads .exit)) (now (lends .exit)) (now (next .exit)) (now (prev .exit)) s (now (rows .exit)) (now (gathered .exit))) ⌝ }
+    numbers: &mut [usize; 3],
+    script: &[u8],
+    lists: &mut [u16],
+    bytes: &mut [u8],
+    answers: &mut [usize],
+    at: Cursor,
+) -> Cursor
+    requires { ⌜ (at .listed ≤ length (now lists)) × (at .written ≤ length (now bytes)) ⌝ }
+    ensures { λ r. ⌜ Turned (stateOf (now (numbers .entry)) (now (letters .entry)) (now (radius .entry)) (now (heads .entry)) (now (lends .entry)) (now (next .entry)) (now (prev .entry)) (now (rows .entry)) (now (gathered .entry))) (now (lists .entry)) (now (bytes .entry)) (now (answers .entry))
+        at r (stateOf (now (numbers .exit)) (now (letters .exit)) (now (radius .exit)) (now (heads .exit)) (now (lends .exit)) (now (next .exit)) (now (prev .exit)) (now (rows .exit)) (now (gathered .exit))) (now (lists .exit)) (now (bytes .exit)) (now (answers .exit))
+        (calledAt (now (script .entry)) (now (lists .entry)) (now (bytes .entry)) (now (answers .entry)) at) ⌝ }
 {
-    if in_range(n, k) {
-        let a = append(
+    let q = request_at(script, answers.len(), numbers, at.made);
+    let listed = at.listed;
+    let written = at.written;
+    let t = make(
+        letters,
+        radius,
+        heads,
+        lends,
+        next,
+        prev,
+        rows,
+        gathered,
+        &mut lists[listed..],
+        &mut bytes[written..],
+        q,
+    );
+    settle(numbers, answers, at, t)
+}
+
+// The calls of the script, one after the other; gives their number.
+#[no_mangle]
+pub extern "C" fn drive(
+    letters: &mut Letters,
+    radius: &mut ByCentre,
+    heads: &mut ByPlace,
+    lends: &mut ByCentre,
+    next: &mut ByCentre,
+    prev: &mut ByCentre,
+    rows: &mut ByPlace,
+    gathered: &mut ByPlace,
+    numbers: &mut [usize; 3],
+    script: &[u8],
+    lists: &mut [u16],
+    bytes: &mut [u8],
+    answers: &mut [usize],
+) -> usize
+    ensures { λ r. ⌜ Drives (stateOf (now (numbers .entry)) (now (letters .entry)) (now (radius .entry)) (now (heads .entry)) (now (lends .entry)) (now (next .entry)) (now (prev .entry)) (now (rows .entry)) (now (gathered .entry)))
+        (now (script .entry)) (now (lists .entry)) (now (bytes .entry)) (now (answers .entry))
+        r (stateOf (now (numbers .exit)) (now (letters .exit)) (now (radius .exit)) (now (heads .exit)) (now (lends .exit)) (now (next .exit)) (now (prev .exit)) (now (rows .exit)) (now (gathered .exit))) (now (lists .exit)) (now (bytes .exit)) (now (answers .exit)) ⌝ }
+{
+    let mut at = outset();
+    while at.on {
+        at = turn(
             letters,
             radius,
             heads,
@@ -85,53 +160,56 @@ pub extern "C" fn drive_append(
             prev,
             rows,
             gathered,
-            visits,
-            n,
-            k,
-            Centre(stored),
-            pick,
+            numbers,
+            script,
+            lists,
+            bytes,
+            answers,
+            at,
         );
-        return give(answer, a);
     }
-    0
+    at.made
 }
 
-// The radius at centre c; 0 where n is above 2,048.
-#[no_mangle]
-pub extern "C" fn drive_radius(radius: &ByCentre, n: usize, stored: usize, c: usize) -> usize
-    ensures { λ r. ⌜ RadiusNumber (now (radius .entry)) n stored c r ⌝ }
+// As many bytes as fit.
+fn copy(from: &[u8], into: &mut [u8])
+    ensures { λ r. ⌜ now (into .exit) ≡ sets (now (into .entry)) 0 (now (from .entry)) ⌝ }
 {
-    if n <= PICKS {
-        return radius_at(radius, n, Centre(stored), Centre(c));
+    let mut j = 0usize;
+    while j < from.len() {
+        store_byte(into, j, from[j]);
+        j = j + 1;
     }
-    0
 }
 
-// The centre of the longest ending; 0 where n is above 2,048.
+// Section s of the letters, as far as it fits the part; the answer is the companion's number and the section's length.
 #[no_mangle]
-pub extern "C" fn drive_longest(n: usize, stored: usize) -> usize
-    ensures { λ r. ⌜ LongestNumber n stored r ⌝ }
-{
-    if n <= PICKS {
-        let s = longest(n, Centre(stored));
-        return s.0;
-    }
-    0
-}
-
-// The centre of the next shorter ending after the one at c; 0 where there is none, or n is above 2,048.
-#[no_mangle]
-pub extern "C" fn drive_next(
-    radius: &ByCentre,
-    next: &ByCentre,
-    n: usize,
-    stored: usize,
-    c: usize,
+pub extern "C" fn drive_show(
+    letters: &[u8],
+    ends: &[u16],
+    s: usize,
+    part: &mut [u8],
+    answer: &mut [usize; 2],
 ) -> usize
-    ensures { λ r. ⌜ NextNumber (now (radius .entry)) (now (next .entry)) n stored c r ⌝ }
+    ensures { λ r. ⌜ r ≡ 0 ⌝ }
+    ensures part { λ r. ⌜ now (part .exit) ≡ sets (now (part .entry)) 0 (shown (now (letters .entry)) (now (ends .entry)) s) ⌝ }
+    ensures answer { λ r. ⌜ now (answer .exit)
+        ≡ showRefusal (now (letters .entry)) (now (ends .entry)) s ∷ length (shown (now (letters .entry)) (now (ends .entry)) s) ∷ [] ⌝ }
 {
-    if n <= PICKS {
-        return number_of(next_shorter(radius, next, n, Centre(stored), Centre(c)));
-    }
+    let number = board::show::show_number(letters, ends, s);
+    let section = board::show::show(letters, ends, s);
+    *answer = [wide(number), section.len()];
+    copy(section, part);
+    0
+}
+
+// The lift of a letter: the answer is 0 and the lift, or 1 and the number of the refusal.
+#[no_mangle]
+pub extern "C" fn drive_lift(letter: u8, answer: &mut [usize; 2]) -> usize
+    ensures { λ r. ⌜ r ≡ 0 ⌝ }
+    ensures answer { λ r. ⌜ now (answer .exit) ≡ take 2 (encoded (liftReply letter .said)) ⌝ }
+{
+    let told = lift_told(board::lift::lift(letter));
+    *answer = [told.kind, told.first];
     0
 }

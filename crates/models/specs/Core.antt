@@ -1,9 +1,9 @@
 -- Iterator and engine together: what the arrays hold, and what one pick more does to them.
-use mathlib.Core.Path.{_≡_, refl, sym, ap, subst, _∙_}
+use mathlib.Core.Path.{_≡_, refl, sym, subst, _∙_}
 use mathlib.Core.List.{List, [], _∷_, _++_, append-nil, append-assoc}
 use Prim.Native.Nat.{ℕ, suc, _+_, _≤_, _<_}
 use native.Mathlib.Omega.{arith}
-use lib.ListN.{length, drop, set, replicate, length-append, length-replicate, getD-replicate, List·getD-append}
+use lib.ListN.{length, drop, set, replicate, length-append, length-set, length-replicate, getD-replicate, List·getD-append}
 use lib.Seq.{sets, length-sets, drop-set-lt, getD-append-seam}
 use lib.Bits.{bitOr}
 use Rattle.words.specs.Definitions.{mostPicks, mostVisits, word}
@@ -119,13 +119,13 @@ pub record Held (K : ℕ) (u : List ℕ) : Type 0 where
   pub stored : Arrays
   pub holds : Holds K u stored
 
-cleared : Arrays
+-- no letter: all is 0 but the row word and the gathered word of place 0
+abbrev pub cleared : Arrays
 cleared =
     arrays (replicate mostPicks 0) (replicate centres 0) (replicate places 0) (replicate centres 0) (replicate centres 0) (replicate centres 0) 1
-    (1 ∷ replicate mostPicks 0) (1 ∷ replicate mostPicks 0)
+    (set (replicate places 0) 0 1) (set (replicate places 0) 0 1)
 
-held-none : (K : ℕ) → Holds K [] cleared
-unfolding cleared
+pub held-none : (K : ℕ) → Holds K [] cleared
 held-none K = holds-none K
     (record {
       size = length-replicate {A = ℕ} mostPicks 0;
@@ -138,7 +138,10 @@ held-none K = holds-none K
       none = getD-replicate {A = ℕ} centres 1 0 0 (omega arith);
       clear = λ i l. getD-replicate {A = ℕ} places i 0 0 l;
     })
-    (ap suc (length-replicate {A = ℕ} mostPicks 0)) (ap suc (length-replicate {A = ℕ} mostPicks 0)) refl refl
+    words words refl refl
+  where
+    words : length {A = ℕ} (set (replicate places 0) 0 1) ≡ places
+    words = length-set {A = ℕ} (replicate places 0) 0 1 ∙ length-replicate {A = ℕ} places 0
 
 held-more : (K x : ℕ) (u : List ℕ) → Held K u → length u < mostPicks → Held K (u ++ x ∷ [])
 held-more K x u h l = record { stored = append K (length u) x (h .stored) [] .arrays; holds = means K x u (h .stored) [] (h .holds) l .holds }

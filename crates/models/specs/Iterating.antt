@@ -138,7 +138,7 @@ module _ {w : ℕ → ℕ} {n s : ℕ} {R : List ℕ} (h : Radii w n s R) where
   pub longest-right : longestOf n s ≡ longestCentre w n
   longest-right = omega (arith, in-range h, longest-centre-at (h .longest))
 
-  widest-right : (c : ℕ) → 0 < c → c ≤ 2 * n + 1 → Widest w n c (c / 2 + radiusOf R n s c)
+  pub widest-right : (c : ℕ) → 0 < c → c ≤ 2 * n + 1 → Widest w n c (c / 2 + radiusOf R n s c)
   widest-right c a b = elim (decLe c s) [
     | yes x ↦ simp (le-leb _ _ x) (h .widest c a x)
     | no x ↦ simp (lt-leb c s (omega arith)) (reflected-widest R c (h .longest .is) (h .widest) (omega arith) b)

@@ -16,5 +16,7 @@ pub mod Iterating
 -- the engine's laws
 pub mod Walking
 pub mod Stepping
+pub mod Splitting
 -- how code meets model
 pub mod Turns
+pub mod SplitTurns

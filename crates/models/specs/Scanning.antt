@@ -216,7 +216,8 @@ module _ (w : ℕ → ℕ) (letters : List ℕ) (n pick from : ℕ) (small : n <
     was = λ q. narrower e (omega arith) (omega arith);
   }
 
-  pub scan-right : (k : ℕ) {c : ℕ} {R H L : List ℕ} → ScanAt w n from c R H L → from ≤ c → c + k ≡ 2 * n + 2 → Found w n c (scan letters n pick from k c R H L)
+  pub scan-right : (k : ℕ) {c : ℕ} {R H L : List ℕ} → ScanAt w n from c R H L → from ≤ c → c + k ≡ 2 * n + 2
+      → Found w n c (scan letters n pick from k c R H L)
   unfolding scan
   scan-right zero {c} {R} {H} {L} h b e =
       let q : c ≡ 2 * n + 2 = omega arith in

@@ -1,12 +1,13 @@
 -- What is read after a store, and what the tests of the models say.
-use mathlib.Core.Path.{_≡_}
+use mathlib.Core.Path.{_≡_, sym, ap, _∙_}
 use mathlib.Core.Bool.{true, false}
-use mathlib.Core.List.{List}
-use Prim.Native.Nat.{ℕ, _+_, _-_, _/_, _<_}
+use mathlib.Core.List.{List, [], _∷_, _++_}
+use Prim.Native.Nat.{ℕ, suc, _+_, _-_, _/_, _≤_, _<_}
 use native.Mathlib.Omega.{arith}
 use native.Mathlib.Decide.{decLt, ℕ-discrete}
-use lib.ListN.{getD, length, set}
-use lib.Seq.{getD-set-same, getD-set-other}
+use native.Mathlib.Nat.{zero-add, add-zero}
+use lib.ListN.{getD, length, drop, set}
+use lib.Seq.{getD-set-same, getD-set-other, sets, sets-eq}
 use borrow.Author.Tests.{lt-ltb, le-ltb, eq-eqb, ne-eqb}
 use Rattle.models.specs.Iterator.{start, extends}
 
@@ -19,6 +20,15 @@ set-here l i v h = getD-set-same l i v 0 h
 
 pub set-there : (l : List ℕ) (i j v : ℕ) → (j ≡ i → ⊥) → at (set l i v) j ≡ at l j
 set-there l i j v h = getD-set-other l i j v 0 h
+
+-- two runs of stores, one behind the other
+pub sets-append : (l : List ℕ) (a : ℕ) (xs ys : List ℕ) → sets l a (xs ++ ys) ≡ sets (sets l a xs) (a + length xs) ys
+sets-append l a [] ys = ap (λ k. sets l k ys) (sym (add-zero a))
+sets-append l a (x ∷ xs) ys = sets-append (set l a x) (suc a) xs ys ∙ ap (λ k. sets (sets (set l a x) (suc a) xs) k ys) (omega arith)
+
+-- a run that fits, from the front
+pub sets-front : (xs l : List ℕ) → length xs ≤ length l → sets l 0 xs ≡ xs ++ drop (length xs) l
+sets-front xs l h = sets-eq xs l 0 (omega arith) ∙ ap (λ k. xs ++ drop k l) (zero-add (length xs))
 
 -- the test of the scan
 module _ (letters : List ℕ) (n c r pick : ℕ) where

@@ -1,12 +1,13 @@
 -- The executable forms: each computes on a word's letters. Laws.antt says of each that it means its definition.
 -- A form whose name ends in ? decides the statement that stands in its type.
+use mathlib.Core.Path.{_≡_, refl}
 use mathlib.Core.List.{List, [], _∷_, _++_}
 use mathlib.Core.Option.{Option, some, none}
-use Prim.Native.Nat.{ℕ, zero, suc, _+_, _-_, _*_, _/_, _%_, _^_}
+use Prim.Native.Nat.{ℕ, zero, suc, _+_, _-_, _*_, _/_, _%_, _^_, _<_}
 use native.Mathlib.Omega.{arith}
 use native.Mathlib.Decide.{decLe, decLt, ℕ-discrete}
 use lib.Bits.{bitOr}
-use Rattle.words.specs.Definitions.{Leading, LeadsFrom, Cubic, centre, radius, nextLeading, laterPlaces}
+use Rattle.words.specs.Definitions.{Leading, LeadsFrom, Cubic, Rising, done, next, centre, radius, nextLeading, laterPlaces}
 use Rattle.words.specs.Search.{map?, both?, implies?, all?, largest, smallest, passing}
 use Rattle.words.specs.Mirror.{ending?, mirrored?}
 use Rattle.words.specs.Periods.{period?}
@@ -66,6 +67,11 @@ unfoldable pub nextCentre : (ℕ → ℕ) → ℕ → ℕ → ℕ
 unfolding nextEnding
 nextCentre w n c = centre n (nextEnding w n (2 * n + 1 - c))
 
+-- the same, if an ending that is not empty has the centre c
+unfoldable pub nextAfter : (ℕ → ℕ) → ℕ → ℕ → Option ℕ
+unfolding both? decLt ending? nextCentre
+nextAfter w n c = elim (both? (decLt 0 (2 * n + 1 - c)) (ending? w n (2 * n + 1 - c))) [ yes h ↦ some (nextCentre w n c) | no f ↦ none ]
+
 -- the radius of the longest mirrored stretch at centre c of the first n letters
 unfoldable pub radiusAt : (ℕ → ℕ) → ℕ → ℕ → ℕ
 unfolding largest mirrored?
@@ -77,6 +83,12 @@ unfolding passing leading?
 visits w n = passing (leading? w n) n
 
 -- Splits
+
+pub risen-none : {n a : ℕ} → Rising n a [] → a ≡ n
+risen-none done = refl
+
+pub risen-next : {n a e : ℕ} {ends : List ℕ} → Rising n a (e ∷ ends) → (a < e) × Rising n e ends
+risen-next (next l h) = (l, h)
 
 -- the ends of the split whose last section is the longest of at most m picks before which the rest splits
 unfoldable pub cutLast : (ℕ → ℕ) → ℕ → (ℕ → Option (List ℕ)) → ℕ → Option (List ℕ)
@@ -95,6 +107,12 @@ unfoldable pub splitOf : (ℕ → ℕ) → ℕ → ℕ → Option (List ℕ)
 unfolding cutLast ℕ-discrete
 splitOf w n zero = elim (ℕ-discrete n 0) [ yes e ↦ some [] | no f ↦ none ]
 splitOf w n (suc k) = cutLast w n (λ a. splitOf w a k) n
+
+-- whether ends rise strictly from above a to n
+unfoldable pub rising? : (n a : ℕ) (ends : List ℕ) → Dec (Rising n a ends)
+unfolding map? both? decLt ℕ-discrete
+rising? n a [] = map? (λ e. rw e done) (λ h. risen-none h) (ℕ-discrete a n)
+rising? n a (e ∷ ends) = map? (λ h. next (h .0) (h .1)) (λ h. risen-next h) (both? (decLt a e) (rising? n e ends))
 
 -- Row words and gathered words
 

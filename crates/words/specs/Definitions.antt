@@ -22,6 +22,13 @@ mostSections = 8
 abbrev pub mostVisits : ℕ
 mostVisits = 19
 
+-- "A pick is one byte, A to Z (65 to 90)"
+abbrev pub firstLetter : ℕ
+firstLetter = 65
+
+abbrev pub lastLetter : ℕ
+lastLetter = 90
+
 -- Largest and smallest, for any property of numbers.
 
 -- k is the largest number below b that has P
@@ -182,6 +189,11 @@ Before s t = Smaller (lengthsBack 0 t) (lengthsBack 0 s)
 pub record Named (w : ℕ → ℕ) (n k : ℕ) (ends : List ℕ) : Type 0 where
   pub is : Split w n k ends
   pub first : (t : List ℕ) → Split w n k t → t ≢ ends → Before ends t
+
+-- ends "rising strictly from above 0 to exactly the number of lent letters": here from above a to n
+pub data Rising (n : ℕ) : ℕ → List ℕ → Type 0 where
+  done : Rising n n []
+  next : {a e : ℕ} {ends : List ℕ} → a < e → Rising n e ends → Rising n a (e ∷ ends)
 
 -- Row words and gathered words.
 

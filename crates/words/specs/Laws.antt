@@ -1,15 +1,16 @@
 -- The laws of the executable forms, in the order of Computed.antt: each means what Definitions.antt says.
 use mathlib.Core.Path.{_≡_, refl, sym, ap, _∙_}
 use mathlib.Core.Logic.{_↔_}
+use mathlib.Core.Option.{some, none}
 use Prim.Native.Nat.{ℕ, zero, suc, _+_, _-_, _*_, _/_, _%_, _^_, _≤_, _<_}
 use native.Mathlib.Omega.{arith}
 use native.Mathlib.Nat.{div-div-eq-div-mul, pow-succ'}
-use native.Mathlib.Decide.{ℕ-discrete}
-use Rattle.words.specs.Definitions.{prefix, Joined, LeastPeriod, LongestEnding, NextEnding, Mirrored, LongestAt, centre, radius, LeadsFrom, LastLead, Visits, bit}
-use Rattle.words.specs.Search.{largest, largest-is, smallest-is, passing-is}
+use native.Mathlib.Decide.{decLt, ℕ-discrete}
+use Rattle.words.specs.Definitions.{prefix, Joined, LeastPeriod, Ending, LongestEnding, NextEnding, Mirrored, LongestAt, centre, radius, LeadsFrom, LastLead, Visits, bit}
+use Rattle.words.specs.Search.{both?, largest, largest-is, smallest-is, passing-is}
 use Rattle.words.specs.Mirror.{empty-ending, single-ending, ending?, mirrored?}
 use Rattle.words.specs.Periods.{whole-period, period?}
-use Rattle.words.specs.Computed.{leading?, leadsFrom?, leastPeriod, longest, longestCentre, moved, nextEnding, nextCentre, radiusAt, visits, splits, bits, rowWord, mask}
+use Rattle.words.specs.Computed.{leading?, leadsFrom?, leastPeriod, longest, longestCentre, moved, nextEnding, nextCentre, nextAfter, radiusAt, visits, splits, bits, rowWord, mask}
 use Rattle.words.specs.Splits.{given, lacking, split-law, joined-split, split-joined, cut, no-picks, splits-one, splits-zero, splits-small}
 use Rattle.words.specs.Bits.{bits-at, bits-past, bits-lt}
 
@@ -42,6 +43,28 @@ module _ (w : ℕ → ℕ) (n : ℕ) where
   pub next-centre : (c len : ℕ) → centre n len ≡ c → len ≤ n → nextCentre w n c ≡ centre n (nextEnding w n len)
   unfolding nextCentre
   next-centre c len e l = let z : 2 * n + 1 - c ≡ len = omega arith in rw z
+
+  -- after an ending that is not empty comes the next shorter one; "the one-pick ending leads to the empty one"
+  pub next-after : (c len : ℕ) → 0 < len → Ending w n len → centre n len ≡ c → nextAfter w n c ≡ some (nextCentre w n c)
+  unfolding nextAfter
+  next-after c len l h e = go (both? (decLt 0 (2 * n + 1 - c)) (ending? w n (2 * n + 1 - c))) refl
+    where
+      len-is : 2 * n + 1 - c ≡ len
+      len-is = omega (arith, h .fits)
+
+      go : (d : Dec ((0 < 2 * n + 1 - c) × Ending w n (2 * n + 1 - c))) → both? (decLt 0 (2 * n + 1 - c)) (ending? w n (2 * n + 1 - c)) ≡ d
+          → nextAfter w n c ≡ some (nextCentre w n c)
+      go (yes a) q = rw (q, nextAfter)
+      go (no f) q = absurd (f (rw len-is (l, h)))
+
+  pub next-missing : (c : ℕ) → ((len : ℕ) → 0 < len → Ending w n len → centre n len ≡ c → ⊥) → 0 < c → nextAfter w n c ≡ none
+  unfolding nextAfter
+  next-missing c f l = go (both? (decLt 0 (2 * n + 1 - c)) (ending? w n (2 * n + 1 - c))) refl
+    where
+      go : (d : Dec ((0 < 2 * n + 1 - c) × Ending w n (2 * n + 1 - c))) → both? (decLt 0 (2 * n + 1 - c)) (ending? w n (2 * n + 1 - c)) ≡ d
+          → nextAfter w n c ≡ none
+      go (no g) q = rw (q, nextAfter)
+      go (yes a) q = absurd (f (2 * n + 1 - c) (a .0) (a .1) (omega (arith, a .0, a .1 .fits)))
 
   -- "a centre from 1 to 2n+1": there is a mirrored stretch, of one pick or of none
   at-centre : (c : ℕ) → 0 < c → c ≤ 2 * n + 1 → (len : ℕ) × (len ≤ n) × Mirrored w n c len
@@ -79,7 +102,7 @@ module _ (K : ℕ) (w : ℕ → ℕ) (n : ℕ) where
   unfolding rowWord
   row-lt = omega (arith, bits-lt (splits-small w n) (suc K))
 
-  row-at : (k : ℕ) → k ≤ K → bit (rowWord K w n) k ≡ splits w n k
+  pub row-at : (k : ℕ) → k ≤ K → bit (rowWord K w n) k ≡ splits w n k
   unfolding rowWord
   row-at k h = bits-at (splits-small w n) (suc K) k (omega arith)
 

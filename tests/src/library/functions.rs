@@ -1,10 +1,10 @@
 //! The library's C functions. A slice is its pointer and its length.
 
 extern "C" {
-    /// One pick more: the iterator's append and the engine's append. 1 where n is
-    /// below 2,048 and K is 1 to 8; else 0, and nothing is changed. The answer is
-    /// the row word, the count of visits and the centre of the longest ending.
-    pub fn drive_append(
+    /// Makes the calls of a script one after the other on the state, which is the
+    /// eight arrays and the three numbers n, K and the centre of the longest ending.
+    /// Gives the number of calls made.
+    pub fn drive(
         letters: *mut u8,
         radius: *mut u16,
         heads: *mut u16,
@@ -13,28 +13,31 @@ extern "C" {
         prev: *mut u16,
         rows: *mut u16,
         gathered: *mut u16,
-        visits: *mut u16,
-        visits_len: usize,
-        n: usize,
-        most_sections: u8,
-        longest: usize,
-        pick: u8,
+        numbers: *mut usize,
+        script: *const u8,
+        script_len: usize,
+        lists: *mut u16,
+        lists_len: usize,
+        bytes: *mut u8,
+        bytes_len: usize,
+        answers: *mut usize,
+        answers_len: usize,
+    ) -> usize;
+
+    /// Show. The answer is the companion's number and the length of the part, whose
+    /// bytes are copied to the front of `part` as far as they fit.
+    pub fn drive_show(
+        letters: *const u8,
+        letters_len: usize,
+        ends: *const u16,
+        ends_len: usize,
+        s: usize,
+        part: *mut u8,
+        part_len: usize,
         answer: *mut usize,
     ) -> usize;
 
-    /// The radius of the longest mirrored stretch at a centre from 1 to 2n+1.
-    pub fn drive_radius(radius: *const u16, n: usize, longest: usize, centre: usize) -> usize;
-
-    /// The centre of the longest ending.
-    pub fn drive_longest(n: usize, longest: usize) -> usize;
-
-    /// The centre of the next shorter ending after the one at the given centre; 0
-    /// where the centre belongs to no ending or to the empty one.
-    pub fn drive_next(
-        radius: *const u16,
-        next: *const u16,
-        n: usize,
-        longest: usize,
-        centre: usize,
-    ) -> usize;
+    /// The lift of a letter. The answer is 0 and the lift, or 1 and the refusal
+    /// number.
+    pub fn drive_lift(letter: u8, answer: *mut usize) -> usize;
 }

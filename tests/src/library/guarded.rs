@@ -1,10 +1,12 @@
 //! An array between guard entries.
 
+use std::fmt::Debug;
+
 /// Guard entries on each side.
 const GUARDS: usize = 64;
 
 /// What a guard entry holds.
-pub trait Guard: Copy + Default + PartialEq {
+pub trait Guard: Copy + Debug + Default + PartialEq {
     const GUARD: Self;
 }
 
@@ -34,6 +36,13 @@ impl<T: Guard> Guarded<T> {
         Guarded { entries }
     }
 
+    /// A copy of an array.
+    pub fn of(array: &[T]) -> Guarded<T> {
+        let mut guarded = Guarded::new(array.len());
+        guarded.inner_mut().copy_from_slice(array);
+        guarded
+    }
+
     /// The array itself.
     pub fn inner(&self) -> &[T] {
         &self.entries[GUARDS..self.entries.len() - GUARDS]
@@ -45,10 +54,21 @@ impl<T: Guard> Guarded<T> {
         &mut self.entries[GUARDS..end]
     }
 
+    /// Where the array begins, to lend it.
+    pub fn pointer(&mut self) -> *mut T {
+        self.inner_mut().as_mut_ptr()
+    }
+
     /// Whether every guard entry is as it was made.
     pub fn guards_hold(&self) -> bool {
         let (front, rest) = self.entries.split_at(GUARDS);
         let back = &rest[rest.len() - GUARDS..];
         front.iter().chain(back).all(|&entry| entry == T::GUARD)
+    }
+
+    /// Asserts that this lent array is as given, with its guards.
+    pub fn assert_kept(&self, given: &[T], what: &str) {
+        assert!(self.guards_hold(), "outside the {what} {given:?}");
+        assert_eq!(self.inner(), given, "{what} that are only read");
     }
 }

@@ -1,66 +1,86 @@
-//! The library's core beside the comparison program's tables.
+//! The library's board beside the comparison program's tables.
 
+use comparison::beside::ENTRY;
+use comparison::calls::Taken;
 use comparison::fast::Fast;
-use comparison::library::{Answer, Core};
-
-/// What each entry of a visit list holds before a call.
-const ENTRY: u16 = 0xBEEF;
+use comparison::library::Board;
+use comparison::scripted::{Call, Reply};
 
 /// Entries of the visit list, more than the visits there can be.
 const ENTRIES: usize = 24;
 
-/// Appends a pick and compares the answer and the visit list with the tables of a
-/// draft that opens with these picks. Entries past the visits keep theirs.
-pub fn append_compared(core: &mut Core, fast: &Fast, pick: u8, name: &str) {
-    let m = core.n + 1;
+/// Feeds a pick and compares the answer, the visit list and the centre of the longest
+/// ending with the tables of a draft that opens with these picks. Entries past the
+/// visits keep theirs.
+pub fn feed_compared(board: &mut Board, fast: &Fast, pick: u8, name: &str) {
+    let m = board.n() + 1;
     let visits = fast.visits(m);
-    let expected = Answer {
-        row: usize::from(fast.row(m)),
+    let expected = Taken {
+        mask: fast.mask(m),
         visits: visits.len(),
-        longest_centre: fast.longest_centre(m),
     };
     let mut filled = [ENTRY; ENTRIES];
     for (entry, length) in filled.iter_mut().zip(visits) {
         *entry = length as u16;
     }
     let mut list = [ENTRY; ENTRIES];
-    let answer = core.append(pick, &mut list);
-    assert_eq!(answer, Some(expected), "{name}, pick {m}");
+    let answer = board.feed(pick, &mut list);
+    assert_eq!(answer, Ok(expected), "{name}, pick {m}");
     assert_eq!(list, filled, "{name}, visits of pick {m}");
+    assert_eq!(board.n(), m, "{name}, stored n");
+    let longest = Ok(fast.longest_centre(m));
+    assert_eq!(board.longest_centre(), longest, "{name}, longest at {m}");
 }
 
-/// Compares all that is kept after n picks: the letters, every row word, gathered
-/// word, radius and next ending. Nothing is written outside the arrays.
-pub fn compare_all(core: &Core, fast: &Fast, draft: &[u8], name: &str) {
-    let n = core.n;
+/// Compares all that is kept after n picks: the letters, the longest ending's centre,
+/// every row word, gathered word, mask, radius and next ending. Asking changes nothing.
+pub fn compare_all(board: &mut Board, fast: &Fast, draft: &[u8], name: &str) {
+    let n = board.n();
     let name = format!("{name}, after {n}");
-    assert!(core.guards_hold(), "{name}, outside the arrays");
-    assert!(core.letters() == &draft[..n], "{name}, letters");
-    assert_eq!(
-        core.longest_centre(),
-        fast.longest_centre(n),
-        "{name}, longest"
-    );
-    compare_words(core, fast, &name);
-    compare_centres(core, fast, &name);
+    assert!(board.letters() == &draft[..n], "{name}, letters");
+    let before = board.clone();
+    let longest = fast.longest_centre(n);
+    assert_eq!(board.longest_centre(), Ok(longest), "{name}, longest");
+    assert_eq!(board.longest(), longest, "{name}, stored longest");
+    compare_words(board, fast, &name);
+    compare_masks(board, fast, &name);
+    compare_centres(board, fast, &name);
+    assert!(*board == before, "{name}, a byte of the state changed");
 }
 
-/// Every row word and gathered word.
-fn compare_words(core: &Core, fast: &Fast, name: &str) {
-    let gathered = fast.gathered(core.n);
+/// Every stored row word and gathered word.
+pub fn compare_words(board: &Board, fast: &Fast, name: &str) {
+    let n = board.n();
+    let gathered = fast.gathered(n);
     for (i, &word) in gathered.iter().enumerate() {
-        assert_eq!(core.rows()[i], fast.row(i), "{name}, row {i}");
-        assert_eq!(core.gathered()[i], word, "{name}, gathered word {i}");
+        assert_eq!(board.rows()[i], fast.row(i), "{name}, row {i} after {n}");
+        assert_eq!(board.gathered()[i], word, "{name}, word {i} after {n}");
+    }
+}
+
+/// The mask of every prefix.
+fn compare_masks(board: &mut Board, fast: &Fast, name: &str) {
+    let prefixes = 0..=board.n() as u16;
+    let calls: Vec<Call> = prefixes.map(|prefix| Call::Mask { prefix }).collect();
+    for (i, reply) in board.ask(&calls).into_iter().enumerate() {
+        let expected = Ok([usize::from(fast.mask(i)), 0]);
+        assert_eq!(reply, expected, "{name}, mask of prefix {i}");
     }
 }
 
 /// Every radius and next ending.
-fn compare_centres(core: &Core, fast: &Fast, name: &str) {
-    let n = core.n;
-    for centre in 1..=2 * n + 1 {
-        let radius = fast.radius(n, centre);
-        assert_eq!(core.radius(centre), radius, "{name}, radius at {centre}");
-        let next = fast.next_centre(n, centre).unwrap_or(0);
-        assert_eq!(core.next_centre(centre), next, "{name}, next at {centre}");
+fn compare_centres(board: &mut Board, fast: &Fast, name: &str) {
+    let n = board.n();
+    let centres = 1..=2 * n as u16 + 1;
+    let calls: Vec<Call> = centres
+        .flat_map(|centre| [Call::Radius { centre }, Call::NextCentre { centre }])
+        .collect();
+    for (at, pair) in board.ask(&calls).chunks(2).enumerate() {
+        let centre = at + 1;
+        let radius: Reply = Ok([fast.radius(n, centre), 0]);
+        assert_eq!(pair[0], radius, "{name}, radius at {centre}");
+        let next = fast.next_centre(n, centre);
+        let next = next.map(|centre| [centre, 0]).ok_or(10);
+        assert_eq!(pair[1], next, "{name}, next at {centre}");
     }
 }

@@ -1,0 +1,35 @@
+use Prim.Native.Nat.{_+_, _-_}
+use native.Mathlib.Omega.{arith}
+use Rattle.words.specs.Definitions.{mostPicks}
+use borrow.Author.Needs.{needs}
+use Rattle.draft.proofs.picks.take_picks.Statement.{statement}
+use Rattle.draft.proofs.picks.take_picks.Tie as tie
+
+abbrev Inv-loop : tie.InvT-loop
+Inv-loop letters₀ radius₀ heads₀ lends₀ next₀ prev₀ rows₀ gathered₀ k longest₀ n₀ letters radius heads lends next prev rows gathered longest n =
+    Unit {0}
+
+-- the picks that can still be read: 2,049 at first
+abbrev μ-loop : tie.MeasureT-loop
+μ-loop letters₀ radius₀ heads₀ lends₀ next₀ prev₀ rows₀ gathered₀ k longest₀ n₀ letters radius heads lends next prev rows gathered longest n =
+    mostPicks + 1 - n
+
+pub take-picks-spec : {M : Type 1} → statement M
+take-picks-spec =
+    tie.close
+    (tie.spec
+    Inv-loop
+    μ-loop
+    (λ c. tt)
+    (λ c κs. search needs)
+    (λ c. search needs)
+    (λ c. search needs)
+    (λ c. tt)
+    (λ c κs. search needs)
+    (λ c. search needs)
+    (λ c. search needs)
+    (λ c. tt)
+    (λ c. omega arith)
+    (λ c. omega arith)
+    (λ c. tt)
+    (λ c. tt))

@@ -1,0 +1,3 @@
+-- the lines that the program prints
+pub mod Lines
+pub mod Putting

@@ -1,0 +1,75 @@
+-- A script that opens with an accepted start: demands 2 and 3 and the transcript hold of what `drive` did.
+use mathlib.Core.Path.{_≡_, refl, sym, ap, ap₂, _∙_}
+use mathlib.Core.List.{List, [], _∷_, _++_, map}
+use Prim.Native.Nat.{ℕ, _/_}
+use native.Mathlib.Omega.{arith}
+use lib.ListN.{length, length-map}
+use Rattle.promises.specs.declared.Draft.{Draft}
+use Rattle.promises.specs.declared.Started.{Started}
+use Rattle.promises.specs.Answers.{Reply}
+use Rattle.promises.specs.Book.{Call, start, blank}
+use Rattle.promises.specs.Replies.{filled, replies}
+use Rattle.promises.specs.Runs.{Made, started, fed, splitted, longestAsked, maskAsked, radiusAsked, nextAsked, folded, callOf, calls, replyOf}
+use Rattle.promises.specs.Demands.{Opened}
+use Rattle.promises.proofs.Demand2.{demand2}
+use Rattle.promises.proofs.Demand3.{demand3}
+use Rattle.promises.proofs.Transcript.{transcript}
+use Rattle.drive.specs.Script.{fromLists, fromBytes, asked}
+use Rattle.drive.specs.Drives.{encoded, joined, Drives}
+use Rattle.drive.specs.Opening.{together, Opens, OpeningHolds}
+
+-- the first call made is that start
+pub record Starts (K : ℕ) (made : List Made) : Type 0 where
+  pub r : Started
+  pub others : List Made
+  pub is : made ≡ started K r ∷ others
+
+starts : (K : ℕ) (rest : List Call) (made : List Made) → calls made ≡ start K ∷ rest → Starts K made
+unfolding callOf
+starts K rest [] e = let z : _≡_ {A = ℕ} 0 1 = cc in absurd (omega arith)
+starts K rest (started J r ∷ ms) e = record { r = r; others = ms; is = ap (λ z. started z r ∷ ms) (cc e) }
+starts K rest (fed pick before r after ∷ ms) e = let z : _≡_ {A = ℕ} 0 1 = cc in absurd (omega arith)
+starts K rest (splitted i k before r after ∷ ms) e = let z : _≡_ {A = ℕ} 0 1 = cc in absurd (omega arith)
+starts K rest (longestAsked r ∷ ms) e = let z : _≡_ {A = ℕ} 0 1 = cc in absurd (omega arith)
+starts K rest (maskAsked i r ∷ ms) e = let z : _≡_ {A = ℕ} 0 1 = cc in absurd (omega arith)
+starts K rest (radiusAsked c r ∷ ms) e = let z : _≡_ {A = ℕ} 0 1 = cc in absurd (omega arith)
+starts K rest (nextAsked c r ∷ ms) e = let z : _≡_ {A = ℕ} 0 1 = cc in absurd (omega arith)
+starts K rest (folded i k before r after ∷ ms) e = let z : _≡_ {A = ℕ} 0 1 = cc in absurd (omega arith)
+
+-- what the calls left, from the calls and their replies
+joined-together : (f : Call → Reply → List ℕ) (ms : List Made) → joined (λ m. f (callOf m) (replyOf m)) ms ≡ together f (calls ms) (map replyOf ms)
+unfolding joined together
+joined-together f [] = refl
+joined-together f (m ∷ ms) = ap (λ z. f (callOf m) (replyOf m) ++ z) (joined-together f ms)
+
+-- of a list of calls that is a run's
+module _ {d : Draft} (script lists bytes answers : List ℕ) {count : ℕ} {e : Draft} {lists' bytes' answers' : List ℕ}
+    (o : Opens script lists bytes answers) (h : Drives d script lists bytes answers count e lists' bytes' answers') where
+  first : Starts (o .K) (h .made)
+  first = starts (o .K) (o .rest) (h .made) (h .asks ∙ o .is)
+
+  opened : Opened d (o .K) (first .r) (first .others)
+  opened = record { least = o .least; most = o .most; run = rw (← (first .is)) (h .run) }
+
+  replied : map replyOf (h .made) ≡ replies blank (asked (length answers / 3) script lists bytes)
+  replied = rw (← (h .asks), first .is) (transcript d (o .K) (first .r) (first .others) opened)
+
+  left : (f : Call → Reply → List ℕ)
+      → joined (λ m. f (callOf m) (replyOf m)) (h .made)
+      ≡ together f (asked (length answers / 3) script lists bytes) (replies blank (asked (length answers / 3) script lists bytes))
+  left f = joined-together f (h .made) ∙ ap₂ (λ cs rs. together f cs rs) (h .asks) replied
+
+pub opening : OpeningHolds
+opening d e script lists bytes answers count lists' bytes' answers' o h =
+    let l = left script lists bytes answers o h in
+    let p = opened script lists bytes answers o h in
+    let s = first script lists bytes answers o h in (
+      record {
+        counts = h .counts ∙ sym (length-map (h .made) callOf) ∙ ap length (h .asks);
+        entries = h .entries ∙ ap (λ z. filled z lists) (l (λ c r. fromLists c (r .list)));
+        output = h .output ∙ ap (λ z. filled z bytes) (l (λ c r. fromBytes c (r .list)));
+        told = h .told ∙ ap (λ z. filled z answers) (l (λ c r. encoded (r .said)));
+      },
+      rw (s .is) (demand2 d (o .K) (s .r) (s .others) p),
+      rw (s .is) (demand3 d (o .K) (s .r) (s .others) p),
+    )

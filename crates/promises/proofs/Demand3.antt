@@ -1,0 +1,155 @@
+-- Demand 3: one theorem about every run.
+use mathlib.Core.Path.{_≡_, refl, sym, ap, _∙_}
+use mathlib.Core.Bool.{true}
+use mathlib.Core.Logic.{_↔_}
+use mathlib.Core.List.{List, [], _∷_, _++_}
+use mathlib.Core.Option.{Option, some}
+use Prim.Native.Nat.{ℕ, _+_, _-_, _*_, _≤_, _<_}
+use native.Mathlib.Omega.{arith}
+use lib.ListN.{length, take, drop, length-append}
+use lib.Seq.{take-at, drop-at}
+use borrow.Author.Tests.{le-leb}
+use Rattle.words.specs.Definitions.{mostPicks, mostSections, word}
+use Rattle.words.specs.Computed.{splitOf, visits, longest, longestCentre}
+use Rattle.words.specs.Laws.{longest-is, longest-centre, visits-are}
+use Rattle.words.specs.FewVisits.{few-visits, visits-some}
+use Rattle.words.specs.Splits.{Splitting, given, lacking, split-law}
+use Rattle.models.specs.Core.{means}
+use Rattle.models.specs.Centres.{longest-centre-at}
+use Rattle.cells.specs.declared.Place.{Place}
+use Rattle.promises.specs.declared.Draft.{Draft}
+use Rattle.promises.specs.declared.Started.{Started}
+use Rattle.promises.specs.declared.Fed.{Fed}
+use Rattle.promises.specs.declared.CentreAnswer.{CentreAnswer}
+use Rattle.promises.specs.declared.SplitAnswer.{SplitAnswer}
+use Rattle.promises.specs.Answers.{Said, gave, refused, reply, startSays, feedSays, centreSays, splitSays}
+use Rattle.promises.specs.Refusals.{startRefusal, splitRefusal, longestRefusal}
+use Rattle.promises.specs.Book.{Book, startTaken}
+use Rattle.promises.specs.Replies.{filled, orNoSplit, startReply, splitReply, longestReply, replyTo}
+use Rattle.promises.specs.Taking.{Case, taken, left, true-false, start-cases, passes7, unless-zero, unless-not}
+use Rattle.promises.specs.Holds.{Holds, arraysOf}
+use Rattle.promises.specs.Promises.{StartPromise, FeedPromise, SplitPromise, LongestPromise}
+use Rattle.promises.specs.Demands.{Accepted, SplitRight, MovedRight, VisitsRight, Demand3Holds}
+use Rattle.promises.proofs.Keeping.{gave-accepted, said-is, list-is, fits, whole, start-met, holds-at-feed, feed-met}
+use Rattle.promises.proofs.Feeding.{fed-accepted, fed-said, fed-list, fed-holds, fed-room}
+
+-- The longest ending's centre
+
+longest-accepted : (n K c : ℕ) → n ≤ mostPicks → 1 ≤ K → K ≤ mostSections → longestReply n K c ≡ reply (gave (c ∷ [])) []
+unfolding longestReply longestRefusal
+longest-accepted n K c x y z = unless-zero (longestRefusal n K) [] _ (passes7 n K 0 x y z)
+
+longest-said : {d : Draft} {b : Book} {r : CentreAnswer} → Holds d b → LongestPromise d r
+    → centreSays r ≡ gave (longestCentre (word (b .row)) (length (b .row)) ∷ [])
+unfolding replyTo
+longest-said {d} {b} h p = said-is (p .meaning b h ∙ longest-accepted (length (b .row)) (b .K) _ (fits h) (h .least) (h .most))
+
+moved-right : {d : Draft} {b : Book} {r : CentreAnswer} → Holds d b → LongestPromise d r → MovedRight (b .row) (centreSays r)
+moved-right {d} {b} h p =
+    let w : ℕ → ℕ = word (b .row) in
+    let n : ℕ = length (b .row) in
+    let e : longestCentre w n ≡ 1 + (2 * n - longest w n) = omega (arith, longest-centre w n) in
+    record { L = longest w n; longest = longest-is w n; moved = 2 * n - longest w n; says = longest-said h p ∙ ap (λ c. gave (c ∷ [])) e; exactly = refl }
+
+-- one pick more makes it no smaller
+onward : {d : Draft} {b : Book} → Holds d b → (pick : ℕ) → length (b .row) < mostPicks
+    → longestCentre (word (b .row)) (length (b .row)) ≤ longestCentre (word (b .row ++ pick ∷ [])) (length (b .row ++ pick ∷ []))
+onward {d} {b} h pick l =
+    let m = means (b .K) pick (b .row) (arraysOf d) [] (h .arrays) l in
+    omega (arith, m .rises, m .longest, longest-centre-at (h .arrays .iterates .stretches .radii .longest))
+
+-- Splits
+
+split-accepted : (n K i k : ℕ) (list : List ℕ) (o : Option (List ℕ)) → n ≤ mostPicks → 1 ≤ K → K ≤ mostSections
+    → 1 ≤ k → k ≤ K → k ≤ length list → i ≤ n
+    → splitReply n K i k list o ≡ orNoSplit o list (λ ends. reply (gave (length ends ∷ [])) (filled ends list))
+unfolding splitReply splitRefusal
+split-accepted n K i k list o x y z p q r s =
+    unless-zero (splitRefusal n K i k (length list)) list _
+    (passes7 n K _ x y z ∙ simp (le-leb 1 k p, le-leb k K q, le-leb k (length list) r, le-leb 0 i (omega arith), le-leb i n s))
+
+split-found : (u : List ℕ) (i k : ℕ) (before : List ℕ) (said : Said) (after : List ℕ)
+    → reply said after ≡ orNoSplit (splitOf (word u) i k) before (λ ends. reply (gave (length ends ∷ [])) (filled ends before))
+    → SplitRight u i k before said after
+unfolding orNoSplit
+split-found u i k before said after e = go (splitOf (word u) i k) (split-law (word u) k i) e
+  where
+    go : (o : Option (List ℕ)) → Splitting (word u) i k o
+        → reply said after ≡ orNoSplit o before (λ ends. reply (gave (length ends ∷ [])) (filled ends before))
+        → SplitRight u i k before said after
+    go o (given ends p n) e =
+        let q : reply said after ≡ reply (gave (length ends ∷ [])) (filled ends before) =
+        e ∙ ap (λ x. orNoSplit x before (λ ends. reply (gave (length ends ∷ [])) (filled ends before))) p in
+        let c : length ends ≡ k = n .is .count in
+        let ok : Accepted said = gave-accepted (said-is q) in
+        record {
+          wants = (λ z. absurd (ok 9 z), λ f. absurd (f ends (n .is)));
+          keeps = λ z. absurd (ok 9 z);
+          gives = λ _. (ends, n, said-is q ∙ ap (λ x. gave (x ∷ [])) c, list-is q ∙ ap (λ x. ends ++ drop x before) c);
+        }
+    go o (lacking p f) e =
+        let q : reply said after ≡ reply (refused 9) before =
+        e ∙ ap (λ x. orNoSplit x before (λ ends. reply (gave (length ends ∷ [])) (filled ends before))) p in
+        record { wants = (λ _. f, λ _. said-is q); keeps = λ _. list-is q; gives = λ z. absurd (z (said-is q)) }
+
+split-right : {d : Draft} {b : Book} → Holds d b → (i : Place) (k : ℕ) (before : List ℕ) (r : SplitAnswer) (after : List ℕ)
+    → i .0 ≤ length (b .row) → 1 ≤ k → k ≤ b .K → k ≤ length before → SplitPromise d i k before r after
+    → SplitRight (b .row) (i .0) k before (splitSays r) after
+unfolding replyTo
+split-right {d} {b} h i k before r after x y z l p =
+    split-found (b .row) (i .0) k before (splitSays r) after
+    (p .meaning b h ∙ split-accepted (length (b .row)) (b .K) (i .0) k before (splitOf (word (b .row)) (i .0) k) (fits h) (h .least) (h .most) y z l x)
+
+-- Visits
+
+visits-right : {d : Draft} {b : Book} {pick : ℕ} {before : List ℕ} {r : Fed} {after : List ℕ} → Holds d b → FeedPromise d pick before r after
+    → Accepted (feedSays (r .answer)) → VisitsRight (b .row ++ pick ∷ []) before (feedSays (r .answer)) after
+visits-right {d} {b} {pick} {before} {r} {after} h p ok =
+    let u : List ℕ = b .row ++ pick ∷ [] in
+    let vs : List ℕ = visits (word u) (length u) in
+    let c : ℕ = length vs in
+    let some : 0 < length u = omega (arith, length-append (b .row) (pick ∷ [])) in
+    let e : after ≡ vs ++ drop c before = fed-list h p ok in
+    record {
+      mask = _;
+      c = c;
+      says = fed-said h p ok;
+      fits = omega (arith, ap length e ∙ length-append vs (drop c before));
+      visited = rw (ap (take c) e ∙ take-at vs (drop c before) c refl) (visits-are (word u) (length u));
+      some = visits-some (word u) (length u) some;
+      few = few-visits (visits-are (word u) (length u)) some;
+      kept = ap (drop c) e ∙ drop-at vs (drop c before) c refl;
+    }
+
+-- Starts
+
+start-accepted : {d : Draft} {K : ℕ} {r : Started} → StartPromise d K r → Accepted (startSays (r .answer)) ↔ (startTaken K ≡ true)
+unfolding startReply
+start-accepted {d} {K} {r} p = go (start-cases K)
+  where
+    go : Case (startTaken K) (startRefusal K) → Accepted (startSays (r .answer)) ↔ (startTaken K ≡ true)
+    go (taken t z) = (λ _. t, λ _. gave-accepted (said-is (p .says ∙ unless-zero (startRefusal K) [] _ z)))
+    go (left t z) = (λ ok. absurd (ok _ (said-is (p .says ∙ unless-not (startRefusal K) [] _ z))), λ y. absurd (true-false y t))
+
+one : {a b : ℕ} → gave (a ∷ []) ≡ gave (b ∷ []) → a ≡ b
+one {a} {b} e = ap (λ s. first s) e
+  where
+    first : Said → ℕ
+    first (gave (x ∷ l)) = x
+    first (gave []) = 0
+    first (refused number) = 0
+
+pub demand3 : Demand3Holds
+demand3 d K r ms o = record {
+  splits = split-right (whole o);
+  moved = λ x p. moved-right (whole o) p;
+  visits = λ xs pick before x after f ok. visits-right (holds-at-feed o xs f) (feed-met o xs f) ok;
+  starts = λ xs ys k x e. start-accepted (start-met o xs ys e);
+  feeds = λ xs pick before x after f. fed-accepted (holds-at-feed o xs f) (feed-met o xs f);
+  onward = λ xs pick before x after f ok p q i j g k e1 e2.
+      let h = holds-at-feed o xs f in
+      let m = feed-met o xs f in
+      let a : i ≡ longestCentre _ _ = one (sym e1 ∙ longest-said h g) in
+      let b : j ≡ longestCentre _ _ = one (sym e2 ∙ longest-said (fed-holds h m ok) k) in
+      omega (arith, a, b, onward h pick (fed-room h m ok));
+}

@@ -1,0 +1,68 @@
+-- What an accepted feed says, and what its list holds.
+use mathlib.Core.Path.{_≡_, refl, subst, _∙_}
+use mathlib.Core.Bool.{Bool, true, false}
+use mathlib.Core.Logic.{_↔_}
+use mathlib.Core.List.{List, [], _∷_, _++_}
+use Prim.Native.Nat.{ℕ, _<_}
+use lib.Dec.{leb}
+use lib.ListN.{length}
+use borrow.Author.Tests.{ltb-true}
+use Rattle.words.specs.Definitions.{mostPicks, mostVisits, firstLetter, lastLetter}
+use Rattle.promises.specs.declared.Draft.{Draft}
+use Rattle.promises.specs.declared.Fed.{Fed}
+use Rattle.promises.specs.Answers.{gave, reply, feedSays}
+use Rattle.promises.specs.Refusals.{both, between, feedRefusal}
+use Rattle.promises.specs.Record.{choose}
+use Rattle.promises.specs.Book.{Book, book, feedTaken, write}
+use Rattle.promises.specs.Replies.{unless, filled, feedReply, fedMask, fedVisits, replyTo}
+use Rattle.promises.specs.Taking.{Case, taken, left, true-false, unless-zero, unless-not}
+use Rattle.promises.specs.Holds.{Holds}
+use Rattle.promises.specs.Promises.{FeedPromise}
+use Rattle.promises.specs.Demands.{Accepted}
+use Rattle.promises.proofs.Keeping.{gave-accepted, said-is, list-is, feed-taken}
+
+module _ {d : Draft} {b : Book} {pick : ℕ} {before : List ℕ} {r : Fed} {after : List ℕ} (h : Holds d b) (p : FeedPromise d pick before r after) where
+  is : reply (feedSays (r .answer)) after
+      ≡ unless (feedRefusal (length (b .row)) (b .K) pick (length before)) before
+      (reply (gave (fedMask b pick ∷ length (fedVisits b pick) ∷ [])) (filled (fedVisits b pick) before))
+  unfolding replyTo feedReply
+  is = p .meaning b h .replies
+
+  -- accepted exactly when the book takes it
+  pub fed-accepted : Accepted (feedSays (r .answer)) ↔ (feedTaken b pick (length before) ≡ true)
+  fed-accepted = go (feed-taken h pick (length before))
+    where
+      go : Case (feedTaken b pick (length before)) (feedRefusal (length (b .row)) (b .K) pick (length before))
+          → Accepted (feedSays (r .answer)) ↔ (feedTaken b pick (length before) ≡ true)
+      go (taken t z) = (λ _. t, λ _. gave-accepted (said-is (is ∙ unless-zero _ before _ z)))
+      go (left t z) = (λ ok. absurd (ok _ (said-is (is ∙ unless-not _ before _ z))), λ y. absurd (true-false y t))
+
+  fed-reply : Accepted (feedSays (r .answer))
+      → reply (feedSays (r .answer)) after ≡ reply (gave (fedMask b pick ∷ length (fedVisits b pick) ∷ [])) (filled (fedVisits b pick) before)
+  fed-reply ok = go (feed-taken h pick (length before))
+    where
+      go : Case (feedTaken b pick (length before)) (feedRefusal (length (b .row)) (b .K) pick (length before))
+          → reply (feedSays (r .answer)) after ≡ reply (gave (fedMask b pick ∷ length (fedVisits b pick) ∷ [])) (filled (fedVisits b pick) before)
+      go (taken t z) = is ∙ unless-zero _ before _ z
+      go (left t z) = absurd (ok _ (said-is (is ∙ unless-not _ before _ z)))
+
+  pub fed-said : Accepted (feedSays (r .answer)) → feedSays (r .answer) ≡ gave (fedMask b pick ∷ length (fedVisits b pick) ∷ [])
+  fed-said ok = said-is (fed-reply ok)
+
+  pub fed-list : Accepted (feedSays (r .answer)) → after ≡ filled (fedVisits b pick) before
+  fed-list ok = list-is (fed-reply ok)
+
+  -- the state holds the row with the pick, and there was room for it
+  pub fed-holds : Accepted (feedSays (r .answer)) → Holds (r .state) (book (b .K) (b .row ++ pick ∷ []))
+  unfolding write
+  fed-holds ok =
+      let t : feedTaken b pick (length before) ≡ true = fed-accepted .0 ok in
+      subst (λ x. Holds (r .state) (choose x (book (b .K) (b .row ++ pick ∷ [])) b)) t (p .meaning b h .holds)
+
+  pub fed-room : Accepted (feedSays (r .answer)) → length (b .row) < mostPicks
+  fed-room ok = ltb-true _ _ (room (between firstLetter lastLetter pick) (leb mostVisits (length before)) _ (fed-accepted .0 ok))
+    where
+      room : (x y z : Bool) → both x (both y z) ≡ true → z ≡ true
+      room true true z e = e
+      room true false z e = absurd (true-false e refl)
+      room false y z e = absurd (true-false e refl)

@@ -1,0 +1,69 @@
+-- What an answer says: the values it gives, or the number under which it refuses.
+use mathlib.Core.List.{List, [], _∷_}
+use Prim.Native.Nat.{ℕ}
+use Rattle.promises.specs.declared.StartAnswer.{StartAnswer}
+use Rattle.promises.specs.declared.StartAnswer.the-variants.{Begun, Refused as StartRefused}
+use Rattle.promises.specs.declared.FeedAnswer.{FeedAnswer}
+use Rattle.promises.specs.declared.FeedAnswer.the-variants.{Taken, Refused as FeedRefused}
+use Rattle.promises.specs.declared.MaskAnswer.{MaskAnswer}
+use Rattle.promises.specs.declared.MaskAnswer.the-variants.{Mask, Refused as MaskRefused}
+use Rattle.promises.specs.declared.RadiusAnswer.{RadiusAnswer}
+use Rattle.promises.specs.declared.RadiusAnswer.the-variants.{Radius, Refused as RadiusRefused}
+use Rattle.promises.specs.declared.CentreAnswer.{CentreAnswer}
+use Rattle.promises.specs.declared.CentreAnswer.the-variants.{At, Refused as CentreRefused}
+use Rattle.promises.specs.declared.SplitAnswer.{SplitAnswer}
+use Rattle.promises.specs.declared.SplitAnswer.the-variants.{Split, Refused as SplitRefused}
+use Rattle.promises.specs.declared.RecordAnswer.{RecordAnswer}
+use Rattle.promises.specs.declared.RecordAnswer.the-variants.{Written, Refused as RecordRefused}
+use Rattle.promises.specs.declared.LiftAnswer.{LiftAnswer}
+use Rattle.promises.specs.declared.LiftAnswer.the-variants.{Lift, Refused as LiftRefused}
+
+pub data Said : Type 0 where
+  gave : List ℕ → Said
+  refused : ℕ → Said
+
+-- what is said, and the lent list as it stands afterwards; [] where none is lent
+pub record Reply : Type 0 where
+  pub said : Said
+  pub list : List ℕ
+
+abbrev pub reply : Said → List ℕ → Reply
+reply said list = record { said = said; list = list }
+
+-- The paper's number and values for each case of each enum
+
+abbrev pub startSays : StartAnswer → Said
+startSays Begun = gave []
+startSays (StartRefused number) = refused number
+
+-- the mask, and the count of visits
+abbrev pub feedSays : FeedAnswer → Said
+feedSays (Taken mask count) = gave (mask ∷ count ∷ [])
+feedSays (FeedRefused number) = refused number
+
+abbrev pub maskSays : MaskAnswer → Said
+maskSays (Mask mask) = gave (mask ∷ [])
+maskSays (MaskRefused number) = refused number
+
+abbrev pub radiusSays : RadiusAnswer → Said
+radiusSays (Radius radius) = gave (radius ∷ [])
+radiusSays (RadiusRefused number) = refused number
+
+-- in half picks
+abbrev pub centreSays : CentreAnswer → Said
+centreSays (At centre) = gave (centre .0 ∷ [])
+centreSays (CentreRefused number) = refused number
+
+-- the turn count
+abbrev pub splitSays : SplitAnswer → Said
+splitSays (Split turns) = gave (turns ∷ [])
+splitSays (SplitRefused number) = refused number
+
+-- the record's count of bytes
+abbrev pub recordSays : RecordAnswer → Said
+recordSays (Written bytes) = gave (bytes ∷ [])
+recordSays (RecordRefused number) = refused number
+
+abbrev pub liftSays : LiftAnswer → Said
+liftSays (Lift lift) = gave (lift ∷ [])
+liftSays (LiftRefused number) = refused number

@@ -1,0 +1,71 @@
+-- The calls of a run, and the plain book that is kept beside it, "from the calls' arguments alone, the state not among them".
+use mathlib.Core.Bool.{Bool}
+use mathlib.Core.List.{List, [], _∷_, _++_}
+use Prim.Native.Nat.{ℕ}
+use lib.Dec.{leb, ltb}
+use lib.ListN.{length}
+use Rattle.words.specs.Definitions.{mostPicks, mostSections, mostVisits, firstLetter, lastLetter}
+use Rattle.promises.specs.Refusals.{both, between}
+use Rattle.promises.specs.Record.{choose}
+
+-- A call with its arguments, the state not among them; a list is lent as it stands. Places are in whole picks, centres in half picks.
+-- The last four calls only read the state.
+pub data Call : Type 0 where
+  start : (K : ℕ) → Call
+  feed : (pick : ℕ) (visits : List ℕ) → Call
+  split : (i k : ℕ) (ends : List ℕ) → Call
+  longest : Call
+  mask : (i : ℕ) → Call
+  radius : (c : ℕ) → Call
+  next : (c : ℕ) → Call
+  fold : (i k : ℕ) (output : List ℕ) → Call
+
+-- the list as it was lent; [] where none is
+unfoldable pub lent : Call → List ℕ
+lent (start K) = []
+lent (feed pick visits) = visits
+lent (split i k ends) = ends
+lent longest = []
+lent (mask i) = []
+lent (radius c) = []
+lent (next c) = []
+lent (fold i k output) = output
+
+-- "It holds K and a row of letters."
+pub record Book : Type 0 where
+  pub K : ℕ
+  pub row : List ℕ
+
+abbrev pub book : ℕ → List ℕ → Book
+book K row = record { K = K; row = row }
+
+-- "A start with K from 1 to 8"
+abbrev pub startTaken : ℕ → Bool
+startTaken K = between 1 mostSections K
+
+-- "when the pick is A to Z, the visit list has at least 19 entries and the row has under 2,048 letters"
+abbrev pub feedTaken : Book → ℕ → ℕ → Bool
+feedTaken b pick entries = both (between firstLetter lastLetter pick) (both (leb mostVisits entries) (ltb (length (b .row)) mostPicks))
+
+-- "writes K and clears the row"; "adds its pick at the end"; "Every other call leaves the book alone."
+unfoldable pub write : Book → Call → Book
+write b (start K) = choose (startTaken K) (book K []) b
+write b (feed pick visits) = choose (feedTaken b pick (length visits)) (book (b .K) (b .row ++ pick ∷ [])) b
+write b (split i k ends) = b
+write b longest = b
+write b (mask i) = b
+write b (radius c) = b
+write b (next c) = b
+write b (fold i k output) = b
+
+unfoldable pub writeAll : Book → List Call → Book
+unfolding write
+writeAll b [] = b
+writeAll b (c ∷ cs) = writeAll (write b c) cs
+
+-- nothing stands in the book before the first call
+abbrev pub blank : Book
+blank = book 0 []
+
+abbrev pub bookOf : List Call → Book
+bookOf cs = writeAll blank cs

@@ -1,0 +1,111 @@
+-- The promise of each public call, as its contract cites it. `meaning`: on a state that holds what stands in the book, the reply
+-- is the one that the book gives. `computes`: on any state whatever, the refusals in their order, and else what is read from the
+-- stored arrays.
+use mathlib.Core.Path.{_≡_}
+use mathlib.Core.Logic.{_≢_}
+use mathlib.Core.List.{List, [], _∷_}
+use mathlib.Core.Option.{Option}
+use Prim.Native.Nat.{ℕ, _+_, _/_, _%_, _≤_}
+use lib.ListN.{length, drop}
+use Rattle.words.specs.Definitions.{mostVisits, word}
+use Rattle.models.specs.Core.{After, append}
+use Rattle.models.specs.Stores.{at}
+use Rattle.models.specs.Iterator.{longestOf, radiusOf}
+use Rattle.models.specs.Answers.{nextOf}
+use Rattle.models.specs.Splitting.{splitBy}
+use Rattle.cells.specs.declared.Place.{Place}
+use Rattle.cells.specs.declared.Centre.{Centre}
+use Rattle.promises.specs.declared.Draft.{Draft}
+use Rattle.promises.specs.declared.Started.{Started}
+use Rattle.promises.specs.declared.Fed.{Fed}
+use Rattle.promises.specs.declared.MaskAnswer.{MaskAnswer}
+use Rattle.promises.specs.declared.RadiusAnswer.{RadiusAnswer}
+use Rattle.promises.specs.declared.CentreAnswer.{CentreAnswer}
+use Rattle.promises.specs.declared.SplitAnswer.{SplitAnswer}
+use Rattle.promises.specs.declared.RecordAnswer.{RecordAnswer}
+use Rattle.promises.specs.declared.LiftAnswer.{LiftAnswer}
+use Rattle.promises.specs.Answers.{Said, gave, refused, reply, startSays, feedSays, maskSays, radiusSays, centreSays, splitSays, recordSays, liftSays}
+use Rattle.promises.specs.Refusals.{startRefusal, feedRefusal, showRefusal}
+use Rattle.promises.specs.Book.{Book, book, write, feed, split, longest, mask, radius, next, fold}
+use Rattle.promises.specs.Replies.{startReply, maskReply, radiusReply, longestReply, nextReply, splitReply, recordReply, shown, liftReply, replyTo}
+use Rattle.promises.specs.Holds.{Holds, arraysOf}
+
+-- a row word's mask, in eight bits
+abbrev pub maskByte : ℕ → ℕ
+maskByte row = row / 2 % 256
+
+-- Start, on whatever was stored
+pub record StartPromise (d : Draft) (K : ℕ) (r : Started) : Type 0 where
+  pub says : reply (startSays (r .answer)) [] ≡ startReply K
+  pub refuses : startRefusal K ≢ 0 → r .state ≡ d
+  pub begins : startRefusal K ≡ 0 → Holds (r .state) (book K [])
+
+-- Feed
+
+pub record Feeds (b : Book) (pick : ℕ) (before : List ℕ) (said : Said) (state : Draft) (after : List ℕ) : Type 0 where
+  pub replies : reply said after ≡ replyTo b (feed pick before)
+  -- "which takes a pick and stores nothing": the state then holds what the book then has
+  pub holds : Holds state (write b (feed pick before))
+
+-- z is what the core computes; the mask and the lengths visited are its
+pub record FeedComputes (d : Draft) (before : List ℕ) (z : After) (said : Said) (state : Draft) (after : List ℕ) : Type 0 where
+  pub says : said ≡ gave (maskByte (z .row) ∷ z .count ∷ [])
+  pub list : after ≡ z .visits
+  pub few : z .count ≤ mostVisits
+  pub size : length after ≡ length before
+  pub later : drop (z .count) after ≡ drop (z .count) before
+  pub more : state .n ≡ d .n + 1
+  pub sections : state .k ≡ d .k
+  pub arrays : arraysOf state ≡ z .arrays
+
+pub record FeedPromise (d : Draft) (pick : ℕ) (before : List ℕ) (r : Fed) (after : List ℕ) : Type 0 where
+  pub meaning : (b : Book) → Holds d b → Feeds b pick before (feedSays (r .answer)) (r .state) after
+  pub refuses : feedRefusal (d .n) (d .k) pick (length before) ≢ 0
+      → (feedSays (r .answer) ≡ refused (feedRefusal (d .n) (d .k) pick (length before))) × (r .state ≡ d) × (after ≡ before)
+  pub computes : feedRefusal (d .n) (d .k) pick (length before) ≡ 0
+      → FeedComputes d before (append (d .k) (d .n) pick (arraysOf d) before) (feedSays (r .answer)) (r .state) after
+
+-- The calls that only read
+
+pub record MaskPromise (d : Draft) (i : Place) (r : MaskAnswer) : Type 0 where
+  pub meaning : (b : Book) → Holds d b → reply (maskSays r) [] ≡ replyTo b (mask (i .0))
+  pub computes : reply (maskSays r) [] ≡ maskReply (d .n) (d .k) (i .0) (maskByte (at (d .rows) (i .0)))
+
+pub record RadiusPromise (d : Draft) (c : Centre) (r : RadiusAnswer) : Type 0 where
+  pub meaning : (b : Book) → Holds d b → reply (radiusSays r) [] ≡ replyTo b (radius (c .0))
+  pub computes : reply (radiusSays r) [] ≡ radiusReply (d .n) (d .k) (c .0) (radiusOf (d .radius) (d .n) (longestOf (d .n) (d .longest .0)) (c .0))
+
+pub record LongestPromise (d : Draft) (r : CentreAnswer) : Type 0 where
+  pub meaning : (b : Book) → Holds d b → reply (centreSays r) [] ≡ replyTo b longest
+  pub computes : reply (centreSays r) [] ≡ longestReply (d .n) (d .k) (longestOf (d .n) (d .longest .0))
+
+pub record NextPromise (d : Draft) (c : Centre) (r : CentreAnswer) : Type 0 where
+  pub meaning : (b : Book) → Holds d b → reply (centreSays r) [] ≡ replyTo b (next (c .0))
+  pub computes : reply (centreSays r) [] ≡ nextReply (d .n) (d .k) (c .0) (nextOf (d .radius) (d .next) (d .n) (longestOf (d .n) (d .longest .0)) (c .0))
+
+-- the split by the stored row words and radii
+abbrev pub splitHeld : Draft → (k i : ℕ) → Option (List ℕ)
+splitHeld d k i = splitBy (d .rows) (d .radius) (d .n) (longestOf (d .n) (d .longest .0)) k i
+
+pub record SplitPromise (d : Draft) (i : Place) (k : ℕ) (before : List ℕ) (r : SplitAnswer) (after : List ℕ) : Type 0 where
+  pub meaning : (b : Book) → Holds d b → reply (splitSays r) after ≡ replyTo b (split (i .0) k before)
+  pub computes : reply (splitSays r) after
+      ≡ splitReply (d .n) (d .k) (i .0) k before (splitHeld d k (i .0))
+
+pub record RecordPromise (d : Draft) (i : Place) (k : ℕ) (before : List ℕ) (r : RecordAnswer) (after : List ℕ) : Type 0 where
+  pub meaning : (b : Book) → Holds d b → reply (recordSays r) after ≡ replyTo b (fold (i .0) k before)
+  pub computes : reply (recordSays r) after
+      ≡ recordReply (d .n) (d .k) (i .0) k before (word (d .letters)) (splitHeld d k (i .0))
+
+-- The calls that are given no state
+
+-- the part of the lent letters; it is a part of them by its type
+abbrev pub ShowPromise : (letters ends : List ℕ) (s : ℕ) (part : List ℕ) → Type 0
+ShowPromise letters ends s part = part ≡ shown letters ends s
+
+-- the companion: "0 for an accepted show"
+abbrev pub ShowNumberPromise : (letters ends : List ℕ) (s number : ℕ) → Type 0
+ShowNumberPromise letters ends s number = number ≡ showRefusal letters ends s
+
+abbrev pub LiftPromise : (letter : ℕ) (r : LiftAnswer) → Type 0
+LiftPromise letter r = reply (liftSays r) [] ≡ liftReply letter

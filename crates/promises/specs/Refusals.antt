@@ -1,0 +1,96 @@
+-- Document 01's two lists of refusals, and for each call the order in which it tests them: 7 first, then the input numbers in
+-- rising order but for 5, then 8, 9 or 10, then 5. A call's number is that of the first test that fails, 0 where none does.
+-- Numbers 9, 10 and 5 hang on what is found: they are in Replies.antt.
+use mathlib.Core.Bool.{Bool, true, false}
+use mathlib.Core.List.{List}
+use Prim.Native.Nat.{ℕ, _+_, _*_}
+use lib.Dec.{leb, ltb}
+use lib.ListN.{length}
+use Rattle.words.specs.Definitions.{mostPicks, mostSections, mostVisits, firstLetter, lastLetter}
+use Rattle.words.specs.Computed.{rising?}
+
+abbrev pub both : Bool → Bool → Bool
+both true b = b
+both false b = false
+
+-- x is from low to high
+abbrev pub between : ℕ → ℕ → ℕ → Bool
+between low high x = both (leb low x) (leb x high)
+
+abbrev pub holds : {A : Type 0} → Dec A → Bool
+holds (yes a) = true
+holds (no f) = false
+
+-- the number where the test fails, else what comes after it
+abbrev pub test : Bool → ℕ → ℕ → ℕ
+test true number after = after
+test false number after = number
+
+-- The lines
+
+-- 1. "K outside 1 to 8, or k outside 1 to K": most is 8 or K
+abbrev pub line1 : (most k after : ℕ) → ℕ
+line1 most k after = test (between 1 most k) 1 after
+
+-- 2. "Pick not A to Z"
+abbrev pub line2 : (pick after : ℕ) → ℕ
+line2 pick after = test (between firstLetter lastLetter pick) 2 after
+
+-- 3. "Visit list under 19 entries, or ends list under k entries": least is 19 or k
+abbrev pub line3 : (least entries after : ℕ) → ℕ
+line3 least entries after = test (leb least entries) 3 after
+
+-- 4. "Prefix above n, centre outside 1 to 2n+1, or s outside 1 to the number of ends"
+abbrev pub line4 : (low high x after : ℕ) → ℕ
+line4 low high x after = test (between low high x) 4 after
+
+-- 6. "Ends not rising strictly from above 0 to exactly the number of lent letters"
+abbrev pub line6 : (letters ends : List ℕ) (after : ℕ) → ℕ
+line6 letters ends after = test (holds (rising? (length letters) 0 ends)) 6 after
+
+-- 7. "Stored n above 2,048 or stored K outside 1 to 8"
+abbrev pub line7 : (n K after : ℕ) → ℕ
+line7 n K after = test (both (leb n mostPicks) (between 1 mostSections K)) 7 after
+
+-- 8. "Feeding with n = 2,048"
+abbrev pub line8 : (n after : ℕ) → ℕ
+line8 n after = test (ltb n mostPicks) 8 after
+
+-- The order of each call: n and K are those stored
+
+-- "Start doesn't look at it": at 7
+unfoldable pub startRefusal : (K : ℕ) → ℕ
+startRefusal K = line1 mostSections K 0
+
+-- 7, 2, 3, 8
+unfoldable pub feedRefusal : (n K pick entries : ℕ) → ℕ
+feedRefusal n K pick entries = line7 n K (line2 pick (line3 mostVisits entries (line8 n 0)))
+
+-- 7, 4
+unfoldable pub maskRefusal : (n K i : ℕ) → ℕ
+maskRefusal n K i = line7 n K (line4 0 n i 0)
+
+-- 7, 4; the next shorter ending's goes on to 10
+unfoldable pub centreRefusal : (n K c : ℕ) → ℕ
+centreRefusal n K c = line7 n K (line4 1 (2 * n + 1) c 0)
+
+-- 7
+unfoldable pub longestRefusal : (n K : ℕ) → ℕ
+longestRefusal n K = line7 n K 0
+
+-- 7, 1, 3, 4, and on to 9
+unfoldable pub splitRefusal : (n K i k entries : ℕ) → ℕ
+splitRefusal n K i k entries = line7 n K (line1 K k (line3 k entries (line4 0 n i 0)))
+
+-- 7, 1, 4, and on to 9 and 5
+unfoldable pub recordRefusal : (n K i k : ℕ) → ℕ
+recordRefusal n K i k = line7 n K (line1 K k (line4 0 n i 0))
+
+-- 4, 6
+unfoldable pub showRefusal : (letters ends : List ℕ) (s : ℕ) → ℕ
+unfolding rising?
+showRefusal letters ends s = line4 1 (length ends) s (line6 letters ends 0)
+
+-- 2
+unfoldable pub liftRefusal : (letter : ℕ) → ℕ
+liftRefusal letter = line2 letter 0

@@ -1,0 +1,78 @@
+// Document 01's declarations: the state, and an enum for each answer. No code: what the calls promise is in specs/.
+use cells::ByCentre;
+use cells::ByPlace;
+use cells::Centre;
+use cells::Letters;
+
+// The state of the board. Only start makes one out of nothing, and it does not look at what was stored.
+pub struct Draft {
+    // The picks so far, and K.
+    pub n: usize,
+    pub k: u8,
+    // The centre of the longest ending.
+    pub longest: Centre,
+    pub letters: Letters,
+    // The iterator's arrays: radii, lend lists, the list of the endings' centres.
+    pub radius: ByCentre,
+    pub heads: ByPlace,
+    pub lends: ByCentre,
+    pub next: ByCentre,
+    pub prev: ByCentre,
+    // The engine's: row words and gathered words.
+    pub rows: ByPlace,
+    pub gathered: ByPlace,
+}
+
+pub enum StartAnswer {
+    Begun,
+    Refused(u8),
+}
+
+pub struct Started {
+    pub answer: StartAnswer,
+    pub state: Draft,
+}
+
+pub enum FeedAnswer {
+    // The mask, and the count of visits.
+    Taken(u8, usize),
+    Refused(u8),
+}
+
+pub struct Fed {
+    pub answer: FeedAnswer,
+    pub state: Draft,
+}
+
+pub enum MaskAnswer {
+    Mask(u8),
+    Refused(u8),
+}
+
+pub enum RadiusAnswer {
+    Radius(usize),
+    Refused(u8),
+}
+
+// The answer to the longest ending's centre, and to the next shorter ending's.
+pub enum CentreAnswer {
+    At(Centre),
+    Refused(u8),
+}
+
+pub enum SplitAnswer {
+    // The turn count.
+    Split(usize),
+    Refused(u8),
+}
+
+pub enum RecordAnswer {
+    // The record's count of bytes.
+    Written(usize),
+    Refused(u8),
+}
+
+pub enum LiftAnswer {
+    Lift(u8),
+    Refused(u8),
+}

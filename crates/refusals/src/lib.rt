@@ -1,0 +1,171 @@
+// The numbers of the refusals: each line of document 01's lists, and for each call the first that it meets. 0 is none.
+// Number 6 stands with show; 9, 10 and 5 come after a search, with the calls that make it.
+ghost use mathlib.Core.Path.{_≡_};
+ghost use Rattle.promises.specs.Refusals.{line1, line2, line3, line4, line7, line8, startRefusal, feedRefusal, maskRefusal, centreRefusal, longestRefusal, splitRefusal, recordRefusal, liftRefusal};
+ghost use Rattle.promises.specs.Passing.{orElse};
+ghost use Prim.Native.Nat.{_+_, _*_, _≤_};
+ghost use Rattle.words.specs.Definitions.{mostPicks};
+use cells::Centre;
+use cells::FIRST_LETTER;
+use cells::LAST_LETTER;
+use cells::PICKS;
+use cells::Place;
+use cells::SECTIONS;
+use cells::VISITS;
+
+// 1: k outside 1 to most.
+pub fn line1(most: u8, k: u8) -> u8
+    ensures { λ r. ⌜ r ≡ line1 most k 0 ⌝ }
+{
+    if k < 1 {
+        return 1;
+    }
+    if most < k {
+        return 1;
+    }
+    0
+}
+
+// 2: a byte that is not A to Z.
+pub fn line2(pick: u8) -> u8
+    ensures { λ r. ⌜ r ≡ line2 pick 0 ⌝ }
+{
+    if pick < FIRST_LETTER {
+        return 2;
+    }
+    if LAST_LETTER < pick {
+        return 2;
+    }
+    0
+}
+
+// 3: a list that is too short.
+pub fn line3(least: usize, entries: usize) -> u8
+    ensures { λ r. ⌜ r ≡ line3 least entries 0 ⌝ }
+{
+    if entries < least {
+        return 3;
+    }
+    0
+}
+
+// 4: x outside low to high.
+pub fn line4(low: usize, high: usize, x: usize) -> u8
+    ensures { λ r. ⌜ r ≡ line4 low high x 0 ⌝ }
+{
+    if x < low {
+        return 4;
+    }
+    if high < x {
+        return 4;
+    }
+    0
+}
+
+// 7: a stored n or K that no draft has.
+pub fn line7(n: usize, most: u8) -> u8
+    ensures { λ r. ⌜ r ≡ line7 n most 0 ⌝ }
+{
+    if PICKS < n {
+        return 7;
+    }
+    if most < 1 {
+        return 7;
+    }
+    if SECTIONS < most {
+        return 7;
+    }
+    0
+}
+
+// 8: no room for a pick.
+pub fn line8(n: usize) -> u8
+    ensures { λ r. ⌜ r ≡ line8 n 0 ⌝ }
+{
+    if PICKS <= n {
+        return 8;
+    }
+    0
+}
+
+// The first of two numbers that is not 0.
+pub fn first(a: u8, b: u8) -> u8
+    ensures { λ r. ⌜ r ≡ orElse a b ⌝ }
+{
+    if a == 0 { b } else { a }
+}
+
+// The calls
+
+pub fn start_refusal(k: u8) -> u8
+    ensures { λ r. ⌜ r ≡ startRefusal k ⌝ }
+{
+    line1(SECTIONS, k)
+}
+
+pub fn feed_refusal(n: usize, k: u8, pick: u8, entries: usize) -> u8
+    ensures { λ r. ⌜ r ≡ feedRefusal n k pick entries ⌝ }
+{
+    let state = line7(n, k);
+    let letter = line2(pick);
+    let list = line3(VISITS, entries);
+    let room = line8(n);
+    first(state, first(letter, first(list, room)))
+}
+
+pub fn mask_refusal(n: usize, k: u8, i: Place) -> u8
+    ensures { λ r. ⌜ r ≡ maskRefusal n k (i .0) ⌝ }
+{
+    let state = line7(n, k);
+    let prefix = line4(0, n, i.0);
+    first(state, prefix)
+}
+
+// The last centre of a draft of n picks; 0 where there is no such draft.
+fn last_centre(n: usize) -> usize
+    ensures { λ r. ⌜ (n ≤ mostPicks → r ≡ 2 * n + 1) ⌝ }
+{
+    if n <= PICKS {
+        return 2 * n + 1;
+    }
+    0
+}
+
+pub fn centre_refusal(n: usize, k: u8, c: Centre) -> u8
+    ensures { λ r. ⌜ r ≡ centreRefusal n k (c .0) ⌝ }
+{
+    let state = line7(n, k);
+    let centre = line4(1, last_centre(n), c.0);
+    first(state, centre)
+}
+
+pub fn longest_refusal(n: usize, k: u8) -> u8
+    ensures { λ r. ⌜ r ≡ longestRefusal n k ⌝ }
+{
+    line7(n, k)
+}
+
+pub fn split_refusal(n: usize, most: u8, i: Place, k: u8, entries: usize) -> u8
+    ensures { λ r. ⌜ r ≡ splitRefusal n most (i .0) k entries ⌝ }
+{
+    let state = line7(n, most);
+    let sections = line1(most, k);
+    let list = line3(k as usize, entries);
+    let prefix = line4(0, n, i.0);
+    first(state, first(sections, first(list, prefix)))
+}
+
+pub fn record_refusal(n: usize, most: u8, i: Place, k: u8) -> u8
+    ensures { λ r. ⌜ r ≡ recordRefusal n most (i .0) k ⌝ }
+{
+    let state = line7(n, most);
+    let sections = line1(most, k);
+    let prefix = line4(0, n, i.0);
+    first(state, first(sections, prefix))
+}
+
+pub fn lift_refusal(letter: u8) -> u8
+    ensures { λ r. ⌜ r ≡ liftRefusal letter ⌝ }
+{
+    line2(letter)
+}

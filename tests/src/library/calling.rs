@@ -1,0 +1,97 @@
+//! Each call by itself.
+
+use super::board::Board;
+use super::running::Lent;
+use crate::calls::{Answer, Taken};
+use crate::scripted::{Call, Reply};
+use crate::VISIT_ROOM;
+
+/// A number of a script's call, which has 16 bits.
+fn short(number: usize) -> u16 {
+    u16::try_from(number).expect("an argument of 16 bits")
+}
+
+/// A section count of a script's call, which has 8 bits.
+fn byte(number: usize) -> u8 {
+    u8::try_from(number).expect("an argument of 8 bits")
+}
+
+/// The value of a reply that has one.
+fn one_value(call: Call, reply: Reply) -> Answer<usize> {
+    let [value, none] = reply?;
+    assert_eq!(none, 0, "second value of {call:?}");
+    Ok(value)
+}
+
+impl Board {
+    /// The state after a start with K and a feed of each pick, all accepted, made as
+    /// one script.
+    pub fn fed(draft: &[u8], most_sections: usize) -> Board {
+        let mut board = Board::started(most_sections);
+        let entries = VISIT_ROOM as u16;
+        let feeds: Vec<Call> = draft
+            .iter()
+            .map(|&pick| Call::Feed { pick, entries })
+            .collect();
+        let replies = board.run(&feeds, &mut Lent::to(&feeds, 0, 0));
+        let text = String::from_utf8_lossy(draft);
+        assert!(replies.iter().all(Reply::is_ok), "feeds of {text}");
+        board
+    }
+
+    /// Start.
+    pub fn start(&mut self, most_sections: u8) -> Answer<()> {
+        let values = self.make(Call::Start { most_sections }, &mut [], &mut [])?;
+        assert_eq!(values, [0, 0], "values of a start with K {most_sections}");
+        Ok(())
+    }
+
+    /// Feed.
+    pub fn feed(&mut self, pick: u8, visit_list: &mut [u16]) -> Answer<Taken> {
+        let entries = short(visit_list.len());
+        let [mask, visits] = self.make(Call::Feed { pick, entries }, visit_list, &mut [])?;
+        let mask = u8::try_from(mask).expect("a mask of 8 bits");
+        Ok(Taken { mask, visits })
+    }
+
+    /// Split.
+    pub fn split(&mut self, i: usize, k: usize, ends_list: &mut [u16]) -> Answer<usize> {
+        let (prefix, k, entries) = (short(i), byte(k), short(ends_list.len()));
+        let call = Call::Split { prefix, k, entries };
+        one_value(call, self.make(call, ends_list, &mut []))
+    }
+
+    /// Folded record.
+    pub fn folded_record(&mut self, i: usize, k: usize, output: &mut [u8]) -> Answer<usize> {
+        let (prefix, k, bytes) = (short(i), byte(k), short(output.len()));
+        let call = Call::Record { prefix, k, bytes };
+        one_value(call, self.make(call, &mut [], output))
+    }
+
+    /// Centre of the longest ending.
+    pub fn longest_centre(&mut self) -> Answer<usize> {
+        self.value(Call::LongestCentre)
+    }
+
+    /// Mask of prefix i.
+    pub fn mask_of_prefix(&mut self, i: usize) -> Answer<usize> {
+        self.value(Call::Mask { prefix: short(i) })
+    }
+
+    /// Radius at a centre.
+    pub fn radius_at(&mut self, centre: usize) -> Answer<usize> {
+        let centre = short(centre);
+        self.value(Call::Radius { centre })
+    }
+
+    /// Centre of the next shorter ending after the one at the given centre.
+    pub fn next_centre(&mut self, centre: usize) -> Answer<usize> {
+        let centre = short(centre);
+        self.value(Call::NextCentre { centre })
+    }
+
+    /// The one value of a call that is lent nothing.
+    fn value(&mut self, call: Call) -> Answer<usize> {
+        one_value(call, self.make(call, &mut [], &mut []))
+    }
+}

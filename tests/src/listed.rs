@@ -1,0 +1,78 @@
+//! The refusals that hang on the call's arguments and the stored n and K alone:
+//! numbers 1 to 4, 7 and 8, which hold on any stored state.
+
+use crate::calls::Refusal;
+use crate::plain::{is_most_sections, is_pick};
+use crate::scripted::Call;
+use crate::{MOST_PICKS, VISIT_ROOM};
+
+/// The lines that a call tests, in its order, each with whether it is met.
+type Lines = Vec<(bool, Refusal)>;
+
+/// The number of those that the call is refused with; none where it meets no line of
+/// them.
+pub fn listed(call: Call, n: usize, most_sections: usize) -> Option<Refusal> {
+    let met = lines(call, n, most_sections)
+        .into_iter()
+        .find(|&(met, _)| met);
+    met.map(|(_, number)| number)
+}
+
+/// "Each call that is given a state, other than start, tests 7 first; every call then
+/// tests those input numbers whose inputs it has, in rising order but for 5, then 8,
+/// 9 or 10, then 5."
+fn lines(call: Call, n: usize, most_sections: usize) -> Lines {
+    let mut lines = match call {
+        Call::Start { most_sections } => return line_1_of_start(most_sections),
+        _ => vec![(n > MOST_PICKS || !is_most_sections(most_sections), 7)],
+    };
+    lines.extend(match call {
+        Call::Feed { pick, entries } => vec![
+            (!is_pick(pick), 2),
+            (usize::from(entries) < VISIT_ROOM, 3),
+            (n == MOST_PICKS, 8),
+        ],
+        Call::Split { prefix, k, entries } => vec![
+            (k_is_outside(k, most_sections), 1),
+            (entries < u16::from(k), 3),
+            (usize::from(prefix) > n, 4),
+        ],
+        Call::Record { prefix, k, .. } => vec![
+            (k_is_outside(k, most_sections), 1),
+            (usize::from(prefix) > n, 4),
+        ],
+        Call::Mask { prefix } => vec![(usize::from(prefix) > n, 4)],
+        Call::Radius { centre } | Call::NextCentre { centre } => {
+            vec![(centre_is_outside(centre, n), 4)]
+        }
+        Call::Start { .. } | Call::LongestCentre => Vec::new(),
+    });
+    lines
+}
+
+/// "K outside 1 to 8." "Start doesn't look at" the stored state.
+fn line_1_of_start(most_sections: u8) -> Lines {
+    vec![(!is_most_sections(usize::from(most_sections)), 1)]
+}
+
+/// "k outside 1 to K."
+fn k_is_outside(k: u8, most_sections: usize) -> bool {
+    !(1..=most_sections).contains(&usize::from(k))
+}
+
+/// "Centre outside 1 to 2n+1."
+fn centre_is_outside(centre: u16, n: usize) -> bool {
+    let last = n.saturating_mul(2).saturating_add(1);
+    !(1..=last).contains(&usize::from(centre))
+}
+
+/// The numbers that hang on what is found in the draft, for a call that meets none of
+/// the other lines: 9, 10 and 5.
+pub fn found(call: Call) -> &'static [Refusal] {
+    match call {
+        Call::Split { .. } => &[9],
+        Call::Record { .. } => &[9, 5],
+        Call::NextCentre { .. } => &[10],
+        _ => &[],
+    }
+}

@@ -1,0 +1,99 @@
+//! The calls that are given a state, each with its arguments: both the library and
+//! the comparison program can be given one.
+
+use crate::calls::{self, Answer, State};
+
+/// Bytes of a script for each call.
+pub const CALL_BYTES: usize = 6;
+
+/// A call with its arguments. Prefixes are in whole picks, centres in half picks.
+/// Of a lent list and a lent output the lengths are given.
+#[derive(Clone, Copy, Debug, PartialEq, Eq)]
+pub enum Call {
+    Start { most_sections: u8 },
+    Feed { pick: u8, entries: u16 },
+    Split { prefix: u16, k: u8, entries: u16 },
+    LongestCentre,
+    Mask { prefix: u16 },
+    Radius { centre: u16 },
+    NextCentre { centre: u16 },
+    Record { prefix: u16, k: u8, bytes: u16 },
+}
+
+/// What a call replies: its two values, 0 where there is no such value, or the
+/// number it is refused with.
+pub type Reply = Answer<[usize; 2]>;
+
+impl Call {
+    /// The call in a script: its number, a byte, and two numbers of 16 bits, the
+    /// low byte of each first.
+    pub fn bytes(self) -> [u8; CALL_BYTES] {
+        let (number, byte, at, lent) = match self {
+            Call::Start { most_sections } => (0, most_sections, 0, 0),
+            Call::Feed { pick, entries } => (1, pick, 0, entries),
+            Call::Split { prefix, k, entries } => (2, k, prefix, entries),
+            Call::LongestCentre => (3, 0, 0, 0),
+            Call::Mask { prefix } => (4, 0, prefix, 0),
+            Call::Radius { centre } => (5, 0, centre, 0),
+            Call::NextCentre { centre } => (6, 0, centre, 0),
+            Call::Record { prefix, k, bytes } => (7, k, prefix, bytes),
+        };
+        let ([at_low, at_high], [lent_low, lent_high]) = (at.to_le_bytes(), lent.to_le_bytes());
+        [number, byte, at_low, at_high, lent_low, lent_high]
+    }
+
+    /// The entries of the list that the call is lent.
+    pub fn entries(self) -> usize {
+        match self {
+            Call::Feed { entries, .. } | Call::Split { entries, .. } => usize::from(entries),
+            _ => 0,
+        }
+    }
+
+    /// The bytes of the output that the call is lent.
+    pub fn output_bytes(self) -> usize {
+        match self {
+            Call::Record { bytes, .. } => usize::from(bytes),
+            _ => 0,
+        }
+    }
+
+    /// Whether the call only reads the state.
+    pub fn only_reads(self) -> bool {
+        !matches!(self, Call::Start { .. } | Call::Feed { .. })
+    }
+
+    /// Makes the call by the definitions, on the comparison program's state.
+    pub fn make(self, state: &mut State, list: &mut [u16], output: &mut [u8]) -> Reply {
+        match self {
+            Call::Start { most_sections } => {
+                calls::start(state, usize::from(most_sections)).map(|()| [0, 0])
+            }
+            Call::Feed { pick, .. } => {
+                calls::feed(state, pick, list).map(|taken| [usize::from(taken.mask), taken.visits])
+            }
+            Call::Split { prefix, k, .. } => {
+                one_value(calls::split(state, prefix.into(), k.into(), list))
+            }
+            Call::LongestCentre => one_value(calls::longest_centre(state)),
+            Call::Mask { prefix } => {
+                one_value(calls::mask_of_prefix(state, prefix.into()).map(usize::from))
+            }
+            Call::Radius { centre } => one_value(calls::radius_at(state, centre.into())),
+            Call::NextCentre { centre } => one_value(calls::next_centre(state, centre.into())),
+            Call::Record { prefix, k, .. } => {
+                one_value(calls::folded_record(state, prefix.into(), k.into(), output))
+            }
+        }
+    }
+}
+
+/// The reply of a call that has one value.
+fn one_value(answer: Answer<usize>) -> Reply {
+    answer.map(|value| [value, 0])
+}
+
+/// The bytes of a script of these calls.
+pub fn script(calls: &[Call]) -> Vec<u8> {
+    calls.iter().flat_map(|call| call.bytes()).collect()
+}

@@ -1,0 +1,121 @@
+//! The library's board on stored states that no run made: every call ends, within
+//! bounds, and refusals 1 to 4, 7 and 8 are as listed.
+
+#[path = "support/any_states.rs"]
+mod any_states;
+#[path = "support/bounded.rs"]
+mod bounded;
+#[path = "support/ends.rs"]
+mod ends;
+#[path = "support/some_calls.rs"]
+mod some_calls;
+
+use any_states::{any_number, any_state, spoiled_state, with_any_numbers};
+use bounded::make_within_bounds;
+use comparison::library::Board;
+use comparison::samples::Generator;
+use comparison::scripted::Call;
+use comparison::MOST_PICKS;
+use ends::{each_step_ends, Step};
+use some_calls::some_call;
+use std::sync::mpsc::Sender;
+
+/// Makes some calls of each kind on the state as it comes to be. Starts are left out,
+/// since they would end what no run made.
+fn make_some(board: &mut Board, seed: u64, calls: usize, steps: &Sender<Step>) {
+    let generator = &mut Generator(!seed);
+    for number in 0..calls {
+        let step = Step { seed, number };
+        steps.send(step).expect("the test waits");
+        let call = some_call(generator, board.n());
+        if !matches!(call, Call::Start { .. }) {
+            make_within_bounds(board, call, step);
+        }
+    }
+}
+
+/// Feeds picks, and asks at any centre now and then.
+fn feed_some(board: &mut Board, seed: u64, picks: usize, steps: &Sender<Step>) {
+    let generator = &mut Generator(!seed);
+    for number in 0..picks {
+        let step = Step { seed, number };
+        steps.send(step).expect("the test waits");
+        if number.is_multiple_of(50) {
+            ask_anywhere(board, generator, step);
+        }
+        let pick = b"ABC"[generator.below(3)];
+        let entries = 19 + generator.below(8) as u16;
+        let call = Call::Feed { pick, entries };
+        make_within_bounds(board, call, step);
+    }
+}
+
+/// Puts the questions that only read, at centres and prefixes in range and at any
+/// others. The longest ending's centre is the stored one, brought into 1 to 2n+1.
+fn ask_anywhere(board: &mut Board, generator: &mut Generator, step: Step) {
+    for _ in 0..10 {
+        let centre = any_number(generator) as u16;
+        let calls = [
+            Call::Radius { centre },
+            Call::NextCentre { centre },
+            Call::Mask { prefix: centre },
+            Call::LongestCentre,
+        ];
+        for call in calls {
+            make_within_bounds(board, call, step);
+        }
+    }
+    if board.n() <= MOST_PICKS {
+        let centre = board.longest().clamp(1, 2 * board.n() + 1);
+        assert_eq!(board.longest_centre(), Ok(centre), "longest, {step}");
+    }
+}
+
+#[test]
+fn calls_on_any_bytes() {
+    each_step_ends(|steps| {
+        for seed in 0..10_000 {
+            make_some(&mut any_state(&mut Generator(seed)), seed, 16, steps);
+        }
+    });
+}
+
+#[test]
+fn hundreds_of_picks_on_any_bytes() {
+    each_step_ends(|steps| {
+        for seed in 10_000..12_000 {
+            feed_some(&mut any_state(&mut Generator(seed)), seed, 300, steps);
+        }
+    });
+}
+
+#[test]
+fn calls_on_a_spoiled_draft() {
+    each_step_ends(|steps| {
+        for seed in 20_000..25_000 {
+            make_some(&mut spoiled_state(&mut Generator(seed)), seed, 40, steps);
+        }
+    });
+}
+
+#[test]
+fn hundreds_of_picks_on_a_spoiled_draft() {
+    each_step_ends(|steps| {
+        for seed in 25_000..27_000 {
+            feed_some(&mut spoiled_state(&mut Generator(seed)), seed, 300, steps);
+        }
+    });
+}
+
+/// Any n and any K, within their limits or not.
+#[test]
+fn calls_with_any_n_and_any_k() {
+    each_step_ends(|steps| {
+        for seed in 30_000..40_000 {
+            let generator = &mut Generator(seed);
+            let state = any_state(generator);
+            let mut state = with_any_numbers(state, generator);
+            make_some(&mut state, seed, 16, steps);
+        }
+    });
+}

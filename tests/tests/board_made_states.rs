@@ -1,0 +1,105 @@
+//! The library's board on stored states made for one purpose: the most visits that
+//! links can make, and both sides of each limit of n and K.
+
+#[path = "support/bounded.rs"]
+mod bounded;
+#[path = "support/ends.rs"]
+mod ends;
+
+use bounded::make_within_bounds;
+use comparison::library::Board;
+use comparison::scripted::Call;
+use comparison::MOST_PICKS;
+use ends::{each_step_ends, Step};
+
+/// Links that give each ending of length len the period len / 3 + 1, so that each
+/// visit is nearly two thirds of the one before: the most visits that links can make.
+#[test]
+fn links_made_for_many_visits() {
+    each_step_ends(|steps| {
+        for n in 1..MOST_PICKS {
+            let step = Step { seed: 0, number: n };
+            steps.send(step).expect("the test waits");
+            let entries = 19 + (n % 8) as u16;
+            let call = Call::Feed { pick: 65, entries };
+            let number = make_within_bounds(&mut many_visits(n), call, step);
+            assert_eq!(number, None, "{step}");
+        }
+    });
+}
+
+/// The state with those links after n picks A; one more is an ending of all.
+fn many_visits(n: usize) -> Board {
+    let mut board = Board::filled(|| 0);
+    board.letters_mut().fill(65);
+    board.store(n, 8, n + 2);
+    let [radius, _, _, next, ..] = board.arrays_mut();
+    radius[n + 2] = (n - (n + 2) / 2) as u16;
+    for length in 1..=n + 1 {
+        let centre = 2 * (n + 1) + 1 - length;
+        next[centre] = (centre + length / 3 + 1) as u16;
+    }
+    board
+}
+
+/// A call of each kind with arguments that no line of 1 to 4 refuses on a good state.
+fn good_calls(n: usize) -> [Call; 8] {
+    let prefix = n.min(MOST_PICKS) as u16;
+    [
+        Call::Start { most_sections: 4 },
+        Call::Feed {
+            pick: 65,
+            entries: 19,
+        },
+        Call::Split {
+            prefix,
+            k: 1,
+            entries: 1,
+        },
+        Call::LongestCentre,
+        Call::Mask { prefix },
+        Call::Radius { centre: 1 },
+        Call::NextCentre { centre: 1 },
+        Call::Record {
+            prefix,
+            k: 1,
+            bytes: 40,
+        },
+    ]
+}
+
+/// Both sides of each limit: n of 2,048 and 2,049, K of 0 and 1, 8 and 9. Every call
+/// but start gives 7 outside them; start is accepted.
+#[test]
+fn both_sides_of_each_limit() {
+    let limits = [0, 1, MOST_PICKS - 1, MOST_PICKS, MOST_PICKS + 1, usize::MAX];
+    for n in limits {
+        for most_sections in [0, 1, 8, 9, 255] {
+            let good = n <= MOST_PICKS && (1..=8).contains(&most_sections);
+            for call in good_calls(n) {
+                let mut board = Board::filled(|| 1);
+                board.store(n, most_sections, n.saturating_add(1));
+                let number = make_within_bounds(&mut board, call, "stored");
+                let is_start = matches!(call, Call::Start { .. });
+                let refused = number == Some(7);
+                let case = format!("{call:?}, n {n}, K {most_sections}");
+                assert_eq!(refused, !good && !is_start, "{case}");
+            }
+        }
+    }
+}
+
+/// Every stored K from 0 to 255.
+#[test]
+fn every_stored_k() {
+    for most_sections in 0..=255 {
+        for call in good_calls(3) {
+            let mut board = Board::filled(|| 0);
+            board.store(3, most_sections, 4);
+            let number = make_within_bounds(&mut board, call, "stored");
+            let is_start = matches!(call, Call::Start { .. });
+            let good = is_start || (1..=8).contains(&most_sections);
+            assert_eq!(number != Some(7), good, "{call:?}, K {most_sections}");
+        }
+    }
+}

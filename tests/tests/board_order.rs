@@ -1,0 +1,164 @@
+//! Which number the library gives when the lines of several are met: every subset of
+//! the lines of each call. 7 first, then the input numbers in rising order but for 5,
+//! then 8, 9 or 10, then 5.
+
+use comparison::beside::{BYTE, ENTRY};
+use comparison::calls::Refusal;
+use comparison::library::{show, Board};
+use comparison::scripted::Call;
+use comparison::{MOST_PICKS, MOST_SECTIONS};
+
+/// For every subset of the lines, which are in the order of the tests, makes the call
+/// that meets exactly those and asserts that it gives the first of them, or is
+/// accepted where there is none. A refusal keeps every byte.
+fn assert_order(lines: &[Refusal], case: impl Fn(&dyn Fn(Refusal) -> bool) -> (Board, Call)) {
+    for subset in 0..1 << lines.len() {
+        let met: Vec<Refusal> = (0..lines.len())
+            .filter(|at| subset >> at & 1 == 1)
+            .map(|at| lines[at])
+            .collect();
+        let (mut board, call) = case(&|number| met.contains(&number));
+        let before = board.clone();
+        let mut list = vec![ENTRY; call.entries()];
+        let mut output = vec![BYTE; call.output_bytes()];
+        let number = board.make(call, &mut list, &mut output).err();
+        assert_eq!(number, met.first().copied(), "{call:?} meets {met:?}");
+        let kept = board == before
+            && list.iter().all(|&entry| entry == ENTRY)
+            && output.iter().all(|&byte| byte == BYTE);
+        assert!(
+            number.is_none() || kept,
+            "{call:?} meets {met:?}: a byte changed"
+        );
+    }
+}
+
+/// A board with the draft, whose stored K is 9 where line 7 is met and 8 else.
+fn stored(draft: &[u8], meets_7: bool) -> Board {
+    let mut board = Board::fed(draft, MOST_SECTIONS);
+    let most_sections = if meets_7 { 9 } else { 8 };
+    board.store(board.n(), most_sections, board.longest());
+    board
+}
+
+#[test]
+fn feed() {
+    assert_order(&[7, 2, 3, 8], |meets| {
+        let length = if meets(8) { MOST_PICKS } else { 5 };
+        let pick = if meets(2) { b'a' } else { b'A' };
+        let entries = if meets(3) { 18 } else { 19 };
+        let board = stored(&vec![b'A'; length], meets(7));
+        (board, Call::Feed { pick, entries })
+    });
+}
+
+/// AB is two sections, and not one.
+#[test]
+fn split() {
+    assert_order(&[7, 1, 3, 4, 9], |meets| {
+        let k = match (meets(1), meets(9)) {
+            (true, _) => 200,
+            (false, true) => 1,
+            (false, false) => 2,
+        };
+        let entries = u16::from(k) - u16::from(meets(3));
+        let prefix = if meets(4) { 3 } else { 2 };
+        let board = stored(b"AB", meets(7));
+        (board, Call::Split { prefix, k, entries })
+    });
+}
+
+/// Line 1 by a k of 0, for which no list is too short.
+#[test]
+fn split_in_none() {
+    assert_order(&[7, 1, 4], |meets| {
+        let k = u8::from(!meets(1)) * 2;
+        let prefix = if meets(4) { 3 } else { 2 };
+        let board = stored(b"AB", meets(7));
+        let entries = u16::from(k);
+        (board, Call::Split { prefix, k, entries })
+    });
+}
+
+#[test]
+fn record() {
+    assert_order(&[7, 1, 4, 9, 5], |meets| {
+        let k = match (meets(1), meets(9)) {
+            (true, _) => 0,
+            (false, true) => 1,
+            (false, false) => 2,
+        };
+        let prefix = if meets(4) { 3 } else { 2 };
+        let bytes = if meets(5) { 0 } else { 40 };
+        let board = stored(b"AB", meets(7));
+        (board, Call::Record { prefix, k, bytes })
+    });
+}
+
+#[test]
+fn mask() {
+    assert_order(&[7, 4], |meets| {
+        let prefix = if meets(4) { 3 } else { 2 };
+        (stored(b"AB", meets(7)), Call::Mask { prefix })
+    });
+}
+
+#[test]
+fn radius() {
+    assert_order(&[7, 4], |meets| {
+        let centre = if meets(4) { 6 } else { 5 };
+        (stored(b"AB", meets(7)), Call::Radius { centre })
+    });
+}
+
+/// Centres 0 and 6 are out of range and belong to no ending; 3 belongs to none; 4 is
+/// that of the one-pick ending.
+#[test]
+fn next_shorter_ending() {
+    for outside in [0, 6] {
+        assert_order(&[7, 4, 10], |meets| {
+            let centre = match (meets(4), meets(10)) {
+                (true, _) => outside,
+                (false, true) => 3,
+                (false, false) => 4,
+            };
+            (stored(b"AB", meets(7)), Call::NextCentre { centre })
+        });
+    }
+}
+
+#[test]
+fn longest_ending() {
+    assert_order(&[7], |meets| (stored(b"AB", meets(7)), Call::LongestCentre));
+}
+
+/// "Start doesn't look at" the stored state: line 1 alone, whatever is stored.
+#[test]
+fn start() {
+    for stored_n in [0, 2_048, 2_049, usize::MAX] {
+        for stored_k in [0, 8, 9, 255] {
+            let mut board = Board::filled(|| 3);
+            board.store(stored_n, stored_k, 7);
+            let case = format!("stored n {stored_n}, K {stored_k}");
+            assert_eq!(board.start(0), Err(1), "{case}");
+            assert_eq!(board.start(9), Err(1), "{case}");
+            assert_eq!(board.start(8), Ok(()), "{case}");
+        }
+    }
+}
+
+/// Show: 4, then 6.
+#[test]
+fn show_lines() {
+    for (ends, s, number) in [
+        ([2, 1], 0, 4),
+        ([2, 1], 3, 4),
+        ([2, 1], 2, 6),
+        ([1, 2], 0, 4),
+        ([1, 2], 3, 4),
+        ([1, 2], 2, 0),
+    ] {
+        let given = show(b"AB", &ends, s, &mut []).0;
+        assert_eq!(given, number, "ends {ends:?}, s {s}");
+    }
+}

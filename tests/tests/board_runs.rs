@@ -1,0 +1,95 @@
+//! Runs of all calls of the library, good and bad arguments mixed, with the plain
+//! book beside: every reply and every lent byte is the one that the book gives, and
+//! refused and reading calls keep every byte of the state.
+
+#[path = "support/some_calls.rs"]
+mod some_calls;
+
+use comparison::beside::Beside;
+use comparison::library::Board;
+use comparison::samples::Generator;
+use comparison::scripted::{Call, Reply};
+use comparison::structured::{broken_cubes, broken_periods};
+use comparison::{MOST_PICKS, MOST_SECTIONS};
+use some_calls::some_call;
+
+/// A run that opens with a start on some bytes.
+fn some_run(generator: &mut Generator) -> Beside {
+    let byte = generator.below(1 << 16) as u16;
+    let mut board = Board::filled(|| byte);
+    let stored = generator.below(256) as u8;
+    board.store(generator.below(5_000), stored, generator.below(9_000));
+    Beside::started_on(board, 1 + generator.below(MOST_SECTIONS) as u8)
+}
+
+/// Makes some calls. Gives how many were accepted and how many refused.
+fn make_some(run: &mut Beside, generator: &mut Generator, calls: usize) -> [usize; 2] {
+    let replies: Vec<Reply> = (0..calls)
+        .map(|_| run.make(some_call(generator, run.book.row.len())))
+        .collect();
+    let accepted = replies.iter().filter(|reply| reply.is_ok()).count();
+    [accepted, calls - accepted]
+}
+
+/// 10,000 runs of some 30 calls each. Many calls of both kinds must be among them.
+#[test]
+fn random_runs() {
+    let generator = &mut Generator(41);
+    let mut counts = [0, 0];
+    for _ in 0..10_000 {
+        let run = &mut some_run(generator);
+        let calls = 20 + generator.below(20);
+        let [accepted, refused] = make_some(run, generator, calls);
+        counts = [counts[0] + accepted, counts[1] + refused];
+    }
+    assert!(counts.iter().all(|&count| count > 60_000), "{counts:?}");
+}
+
+/// Runs of some hundred calls each.
+#[test]
+fn longer_runs() {
+    let generator = &mut Generator(42);
+    for _ in 0..200 {
+        let run = &mut some_run(generator);
+        make_some(run, generator, 400);
+    }
+}
+
+/// Runs that begin some picks before the draft is full and go on past it.
+#[test]
+fn runs_at_a_full_draft() {
+    let generator = &mut Generator(43);
+    for at in 0..24 {
+        let length = MOST_PICKS - generator.below(24);
+        let draft = match at % 2 {
+            0 => broken_cubes(generator, 2, length),
+            _ => broken_periods(generator, 3, length),
+        };
+        let run = &mut Beside::fed(&draft, 1 + generator.below(MOST_SECTIONS));
+        for _ in 0..120 {
+            let call = some_call(generator, run.book.row.len());
+            if !matches!(call, Call::Start { .. }) {
+                run.make(call).ok();
+            }
+        }
+        let entries = 19;
+        while run.book.row.len() < MOST_PICKS {
+            let fed = run.make(Call::Feed { pick: 90, entries });
+            assert!(fed.is_ok(), "{fed:?}, {} picks", run.book.row.len());
+        }
+        assert_eq!(run.make(Call::Feed { pick: 90, entries }), Err(8));
+    }
+}
+
+/// Two boards called in turn, with different K, give what each gives alone.
+#[test]
+fn two_boards_in_turn() {
+    let generator = &mut Generator(44);
+    for _ in 0..200 {
+        let mut runs = [some_run(generator), some_run(generator)];
+        for _ in 0..40 {
+            let run = &mut runs[generator.below(2)];
+            make_some(run, generator, 1);
+        }
+    }
+}

@@ -1,0 +1,162 @@
+//! Scripts: a run as one script gives the same as call by call, and a script ends
+//! early where what it needs is not there.
+
+#[path = "support/some_calls.rs"]
+mod some_calls;
+
+use comparison::beside::{BYTE, ENTRY};
+use comparison::library::{Board, Lent, ANSWER_NUMBERS, UNSET};
+use comparison::samples::Generator;
+use comparison::scripted::{script, Call, Reply, CALL_BYTES};
+use some_calls::some_call;
+
+/// Makes the calls one by one. Gives their replies and what they left of all that
+/// they were lent.
+fn one_by_one(board: &mut Board, calls: &[Call]) -> (Vec<Reply>, Vec<u16>, Vec<u8>) {
+    let (mut replies, mut lists, mut bytes) = (Vec::new(), Vec::new(), Vec::new());
+    for &call in calls {
+        let mut list = vec![ENTRY; call.entries()];
+        let mut output = vec![BYTE; call.output_bytes()];
+        replies.push(board.make(call, &mut list, &mut output));
+        lists.extend(list);
+        bytes.extend(output);
+    }
+    (replies, lists, bytes)
+}
+
+/// Runs the script on what it is lent: it makes the first so many of the calls, each
+/// as by itself, and leaves the entries, bytes and answers past theirs alone.
+fn assert_made(bytes: &[u8], lent: &mut Lent, calls: &[Call], made: usize, case: &str) {
+    let mut board = Board::filled(|| 7);
+    let mut expected = board.clone();
+    assert_eq!(board.run_script(bytes, lent), made, "{case}");
+    let (replies, lists, outputs) = one_by_one(&mut expected, &calls[..made]);
+    assert!(board == expected, "state, {case}");
+    assert_eq!(lent.replies(made), replies, "{case}");
+    let (front, rest) = lent.lists.split_at(lists.len());
+    assert_eq!(front, lists, "lists, {case}");
+    assert!(rest.iter().all(|&entry| entry == ENTRY), "lists, {case}");
+    let (front, rest) = lent.bytes.split_at(outputs.len());
+    assert_eq!(front, outputs, "bytes, {case}");
+    assert!(rest.iter().all(|&byte| byte == BYTE), "bytes, {case}");
+    let mut unset = lent.answers[ANSWER_NUMBERS * made..].iter();
+    assert!(unset.all(|&number| number == UNSET), "answers, {case}");
+}
+
+/// Calls that open with a start and have some of each kind.
+fn some_calls_of_each_kind(generator: &mut Generator, count: usize) -> Vec<Call> {
+    let start = Call::Start { most_sections: 8 };
+    let mut calls = vec![start];
+    while calls.len() < count {
+        calls.push(some_call(generator, calls.len() / 2));
+    }
+    calls
+}
+
+#[test]
+fn a_script_gives_the_same_as_call_by_call() {
+    for seed in 0..2_000 {
+        let generator = &mut Generator(seed);
+        let count = 1 + generator.below(60);
+        let calls = some_calls_of_each_kind(generator, count);
+        let mut lent = Lent::to(&calls, ENTRY, BYTE);
+        let case = format!("seed {seed}, {calls:?}");
+        assert_made(&script(&calls), &mut lent, &calls, calls.len(), &case);
+    }
+}
+
+/// A script cut off anywhere: a call of fewer than six bytes is not made.
+#[test]
+fn a_script_of_fewer_bytes() {
+    let calls = some_calls_of_each_kind(&mut Generator(70), 30);
+    let whole = script(&calls);
+    for length in 0..=whole.len() {
+        let mut lent = Lent::to(&calls, ENTRY, BYTE);
+        let made = length / CALL_BYTES;
+        let case = format!("{length} bytes");
+        assert_made(&whole[..length], &mut lent, &calls, made, &case);
+    }
+}
+
+/// Any room for answers: a call with fewer than three numbers left is not made.
+#[test]
+fn fewer_answers() {
+    let calls = some_calls_of_each_kind(&mut Generator(71), 30);
+    for numbers in 0..=ANSWER_NUMBERS * calls.len() {
+        let mut lent = Lent::to(&calls, ENTRY, BYTE);
+        lent.answers.truncate(numbers);
+        let made = numbers / ANSWER_NUMBERS;
+        let case = format!("{numbers} numbers");
+        assert_made(&script(&calls), &mut lent, &calls, made, &case);
+    }
+}
+
+/// The calls that are lent all they need, one after the other, when this many
+/// entries or bytes are there.
+fn made_with(calls: &[Call], there: usize, need: impl Fn(Call) -> usize) -> usize {
+    let mut left = there;
+    let made = calls.iter().take_while(|&&call| {
+        let fits = need(call) <= left;
+        left = left.saturating_sub(need(call));
+        fits
+    });
+    made.count()
+}
+
+/// Any number of list entries: a call that is lent more than are left is not made,
+/// nor is any after it.
+#[test]
+fn fewer_list_entries() {
+    let calls = some_calls_of_each_kind(&mut Generator(72), 30);
+    let all = Lent::to(&calls, ENTRY, BYTE).lists.len();
+    for entries in 0..=all {
+        let mut lent = Lent::to(&calls, ENTRY, BYTE);
+        lent.lists.truncate(entries);
+        let made = made_with(&calls, entries, Call::entries);
+        let case = format!("{entries} entries");
+        assert_made(&script(&calls), &mut lent, &calls, made, &case);
+    }
+}
+
+/// Any number of bytes for outputs.
+#[test]
+fn fewer_output_bytes() {
+    let calls = some_calls_of_each_kind(&mut Generator(73), 60);
+    let all = Lent::to(&calls, ENTRY, BYTE).bytes.len();
+    assert!(all > 0, "a record is among {calls:?}");
+    for bytes in 0..=all {
+        let mut lent = Lent::to(&calls, ENTRY, BYTE);
+        lent.bytes.truncate(bytes);
+        let made = made_with(&calls, bytes, Call::output_bytes);
+        let case = format!("{bytes} bytes");
+        assert_made(&script(&calls), &mut lent, &calls, made, &case);
+    }
+}
+
+/// A call number above 7 ends the script, wherever it stands.
+#[test]
+fn a_call_number_that_there_is_not() {
+    let calls = some_calls_of_each_kind(&mut Generator(74), 12);
+    for number in 8..=255 {
+        let at = usize::from(number) % calls.len();
+        let mut bytes = script(&calls);
+        bytes[CALL_BYTES * at] = number;
+        let mut lent = Lent::to(&calls, ENTRY, BYTE);
+        let case = format!("number {number} at {at}");
+        assert_made(&bytes, &mut lent, &calls, at, &case);
+    }
+}
+
+/// Entries and bytes beyond what the calls are lent keep theirs.
+#[test]
+fn more_than_is_needed() {
+    for seed in 80..100 {
+        let calls = some_calls_of_each_kind(&mut Generator(seed), 30);
+        let mut lent = Lent::to(&calls, ENTRY, BYTE);
+        lent.lists.extend([ENTRY; 30]);
+        lent.bytes.extend([BYTE; 30]);
+        lent.answers.extend([UNSET; 10]);
+        let case = format!("seed {seed}");
+        assert_made(&script(&calls), &mut lent, &calls, calls.len(), &case);
+    }
+}

@@ -1,0 +1,58 @@
+//! The listed numbers, which need no letters, are those of the comparison program.
+
+#[path = "support/some_calls.rs"]
+mod some_calls;
+
+use comparison::calls::State;
+use comparison::listed::{found, listed};
+use comparison::samples::Generator;
+use comparison::scripted::Call;
+use comparison::MOST_PICKS;
+use some_calls::some_call;
+
+/// A stored state of picks A.
+fn stored(n: usize, most_sections: usize) -> State {
+    State {
+        n,
+        most_sections,
+        letters: [65; MOST_PICKS],
+    }
+}
+
+/// The comparison program refuses the call with the listed number, or else accepts it
+/// or refuses it by what it finds.
+fn assert_listed(call: Call, state: &State) {
+    let list = &mut vec![0; call.entries()];
+    let output = &mut vec![0; call.output_bytes()];
+    let reply = call.make(&mut state.clone(), list, output);
+    let case = format!("{call:?}, n {}, K {}", state.n, state.most_sections);
+    match listed(call, state.n, state.most_sections) {
+        Some(number) => assert_eq!(reply, Err(number), "{case}"),
+        None => {
+            let by_finding = |number| found(call).contains(&number);
+            assert!(reply.err().is_none_or(by_finding), "{reply:?}, {case}");
+        }
+    }
+}
+
+#[test]
+fn on_short_drafts_and_any_k() {
+    let generator = &mut Generator(12);
+    for _ in 0..20_000 {
+        let n = match generator.below(10) {
+            0 => MOST_PICKS + 1 + generator.below(1 << 20),
+            _ => generator.below(9),
+        };
+        let call = some_call(generator, n);
+        assert_listed(call, &stored(n, generator.below(11)));
+    }
+}
+
+#[test]
+fn on_a_full_draft() {
+    let generator = &mut Generator(13);
+    for _ in 0..2_000 {
+        let call = some_call(generator, MOST_PICKS);
+        assert_listed(call, &stored(MOST_PICKS, 8));
+    }
+}

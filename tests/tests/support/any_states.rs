@@ -1,0 +1,63 @@
+//! Stored states that no run made.
+
+use comparison::library::Board;
+use comparison::samples::Generator;
+use comparison::structured::broken_periods;
+use comparison::{MOST_PICKS, MOST_SECTIONS};
+
+/// Any number: small, near the arrays' lengths, or of any size.
+pub fn any_number(generator: &mut Generator) -> usize {
+    let bounds = [4, 2 * MOST_PICKS + 4, 1 << 16, 1 << 32, usize::MAX];
+    let bound = bounds[generator.below(bounds.len())];
+    let number = generator.below(bound);
+    if generator.below(8) == 0 {
+        usize::MAX - number
+    } else {
+        number
+    }
+}
+
+/// Arrays of any bytes, or of numbers below a bound, so that more of them are places
+/// and centres.
+fn any_arrays(generator: &mut Generator) -> Board {
+    let bounds = [65_536, 65_536, 4_098, 2_049, 40, 2];
+    let bound = bounds[generator.below(bounds.len())];
+    Board::filled(|| generator.below(bound) as u16)
+}
+
+/// A state of any bytes, with n up to 2,048, any stored centre and K from 1 to 8.
+pub fn any_state(generator: &mut Generator) -> Board {
+    let mut board = any_arrays(generator);
+    let n = generator.below(MOST_PICKS + 1);
+    let most_sections = 1 + generator.below(MOST_SECTIONS) as u8;
+    board.store(n, most_sections, any_number(generator));
+    board
+}
+
+/// The state of a true draft with some entries changed, and now and then a number.
+pub fn spoiled_state(generator: &mut Generator) -> Board {
+    let length = generator.below(MOST_PICKS + 1);
+    let draft = broken_periods(generator, 2, length);
+    let mut board = Board::fed(&draft, 1 + generator.below(MOST_SECTIONS));
+    for array in board.arrays_mut() {
+        for _ in 0..generator.below(20) {
+            array[generator.below(array.len())] = any_number(generator) as u16;
+        }
+    }
+    let letters = board.letters_mut();
+    letters[generator.below(MOST_PICKS)] = generator.below(256) as u8;
+    if generator.below(4) == 0 {
+        let (n, longest) = (generator.below(MOST_PICKS + 1), any_number(generator));
+        board.store(n, board.most_sections() as u8, longest);
+    }
+    board
+}
+
+/// Stores an n and a K, each within its limits or not, n often just beside its limit.
+pub fn with_any_numbers(mut board: Board, generator: &mut Generator) -> Board {
+    let beside = MOST_PICKS - 1 + generator.below(3);
+    let n = [board.n(), any_number(generator), beside][generator.below(3)];
+    let most_sections = [generator.below(12), generator.below(256)][generator.below(2)] as u8;
+    board.store(n, most_sections, board.longest());
+    board
+}

@@ -1,0 +1,70 @@
+//! A call on any stored state: what must hold of it there.
+
+use comparison::beside::{BYTE, ENTRY};
+use comparison::calls::Refusal;
+use comparison::library::Board;
+use comparison::listed::{found, listed};
+use comparison::scripted::{Call, Reply};
+use comparison::VISIT_ROOM;
+use std::fmt::Display;
+
+/// Makes a call on any stored state. "There 1 to 4 and 8 still hold, and beyond them
+/// the call need only end within bounds." A refusal keeps every byte, and so does a
+/// reading call of the state; an accepted call keeps the entries past those named.
+/// Gives the number that it is refused with.
+pub fn make_within_bounds(board: &mut Board, call: Call, step: impl Display) -> Option<Refusal> {
+    let (n, most_sections) = (board.n(), board.most_sections());
+    let case = || format!("{call:?}, n {n}, K {most_sections}, {step}");
+    let number = listed(call, n, most_sections);
+    let before = (number.is_some() || call.only_reads()).then(|| board.clone());
+    let mut list = vec![ENTRY; call.entries()];
+    let mut output = vec![BYTE; call.output_bytes()];
+    let reply = board.make(call, &mut list, &mut output);
+    assert!(is_possible(reply, number, call), "{reply:?}, {}", case());
+    if let Some(before) = before {
+        assert!(*board == before, "a byte of the state changed, {}", case());
+    }
+    let [entries, bytes] = named(call, reply);
+    let fit = entries <= list.len() && bytes <= output.len();
+    assert!(fit, "more than is lent: {reply:?}, {}", case());
+    let kept = list[entries..].iter().all(|&entry| entry == ENTRY);
+    assert!(kept, "list {list:?}, {}", case());
+    let kept = output[bytes..].iter().all(|&byte| byte == BYTE);
+    assert!(kept, "output {output:?}, {}", case());
+    let stored = [board.n(), board.most_sections()];
+    let expected = numbers_after(call, reply, [n, most_sections]);
+    assert_eq!(stored, expected, "stored n and K, {}", case());
+    reply.err()
+}
+
+/// Whether a call can reply so: with the listed number; where none is listed, it is
+/// accepted, or refused by what it finds. A second value is a count of visits, 19 at
+/// most.
+fn is_possible(reply: Reply, number: Option<Refusal>, call: Call) -> bool {
+    match (reply, number) {
+        (Err(given), Some(number)) => given == number,
+        (Ok(_), Some(_)) => false,
+        (Err(given), None) => found(call).contains(&given),
+        (Ok([_, visits]), None) => visits <= VISIT_ROOM,
+    }
+}
+
+/// The entries and the bytes that an accepted call may fill; a refused one fills none.
+fn named(call: Call, reply: Reply) -> [usize; 2] {
+    match (call, reply) {
+        (Call::Feed { .. }, Ok([_, visits])) => [visits, 0],
+        (Call::Split { k, .. }, Ok(_)) => [usize::from(k), 0],
+        (Call::Record { .. }, Ok([bytes, _])) => [0, bytes],
+        _ => [0, 0],
+    }
+}
+
+/// The stored n and K after a call: an accepted start stores 0 and its K, an accepted
+/// feed one pick more.
+fn numbers_after(call: Call, reply: Reply, [n, most_sections]: [usize; 2]) -> [usize; 2] {
+    match (call, reply) {
+        (Call::Start { most_sections }, Ok(_)) => [0, usize::from(most_sections)],
+        (Call::Feed { .. }, Ok(_)) => [n + 1, most_sections],
+        _ => [n, most_sections],
+    }
+}

@@ -1,0 +1,105 @@
+//! The draft program as a process of its own.
+
+use std::env;
+use std::io::{BufRead, BufReader, Write};
+use std::path::PathBuf;
+use std::process::{Child, ChildStdin, ChildStdout, Command, Stdio};
+use std::sync::mpsc::{channel, Receiver, RecvTimeoutError, Sender};
+use std::thread::{sleep, spawn};
+use std::time::{Duration, Instant};
+
+/// The longest that a line, or the end of the program, may take.
+const LIMIT: Duration = Duration::from_secs(10);
+
+/// The executable: the path in `DRAFT_PROGRAM`, or else `../target/bin/draft`.
+fn program() -> PathBuf {
+    let path = env::var_os("DRAFT_PROGRAM")
+        .filter(|path| !path.is_empty())
+        .map_or_else(|| PathBuf::from("../target/bin/draft"), PathBuf::from);
+    let there = path.is_file();
+    assert!(there, "no {}: run `rt check draft`", path.display());
+    path
+}
+
+/// A running draft program and the lines that it prints.
+pub struct Process {
+    child: Child,
+    lines: Receiver<Vec<u8>>,
+}
+
+impl Process {
+    /// Runs the program on this standard input.
+    pub fn on(input: Stdio) -> Process {
+        let mut child = Command::new(program())
+            .stdin(input)
+            .stdout(Stdio::piped())
+            .spawn()
+            .expect("the draft program runs");
+        let output = child.stdout.take().expect("a piped output");
+        let (sender, lines) = channel();
+        spawn(move || send_lines(output, &sender));
+        Process { child, lines }
+    }
+
+    /// Runs the program with an open pipe as its standard input.
+    pub fn on_pipe() -> (Process, ChildStdin) {
+        let mut process = Process::on(Stdio::piped());
+        let input = process.child.stdin.take().expect("a piped input");
+        (process, input)
+    }
+
+    /// The next line, byte 10 included; none where the output ends.
+    pub fn next_line(&mut self, case: &str) -> Option<Vec<u8>> {
+        match self.lines.recv_timeout(LIMIT) {
+            Ok(line) => Some(line),
+            Err(RecvTimeoutError::Disconnected) => None,
+            Err(RecvTimeoutError::Timeout) => panic!("no line and no end: {case}"),
+        }
+    }
+
+    /// All that is still printed up to the end of the program, which ends by itself.
+    pub fn rest(mut self, case: &str) -> String {
+        let mut output = Vec::new();
+        while let Some(line) = self.next_line(case) {
+            output.extend(line);
+        }
+        let begun = Instant::now();
+        while begun.elapsed() < LIMIT {
+            if let Some(status) = self.child.try_wait().expect("a child's status") {
+                assert!(status.code().is_some(), "ended by {status}: {case}");
+                return String::from_utf8_lossy(&output).into_owned();
+            }
+            sleep(Duration::from_millis(1));
+        }
+        panic!("does not end: {case}");
+    }
+}
+
+impl Drop for Process {
+    /// Ends the program where a test failed before it did.
+    fn drop(&mut self) {
+        self.child.kill().ok();
+        self.child.wait().ok();
+    }
+}
+
+/// Sends each line of the output as it comes.
+fn send_lines(output: ChildStdout, lines: &Sender<Vec<u8>>) {
+    let mut output = BufReader::new(output);
+    loop {
+        let mut line = Vec::new();
+        let read = output.read_until(10, &mut line);
+        if read.unwrap_or(0) == 0 || lines.send(line).is_err() {
+            return;
+        }
+    }
+}
+
+/// All that the program prints on this input.
+pub fn printed_on(input: &[u8], case: &str) -> String {
+    let (process, mut pipe) = Process::on_pipe();
+    // A program that has ended leaves the rest unread.
+    pipe.write_all(input).ok();
+    drop(pipe);
+    process.rest(case)
+}

@@ -1,0 +1,78 @@
+//! Calls with arguments inside and outside their bounds.
+
+use comparison::samples::Generator;
+use comparison::scripted::Call;
+
+/// A call on a draft of about n picks. Starts are few, so that the draft grows.
+pub fn some_call(generator: &mut Generator, n: usize) -> Call {
+    match generator.below(24) {
+        0 => some_start(generator),
+        1..=9 => some_feed(generator),
+        10..=13 => Call::Split {
+            prefix: some_prefix(generator, n),
+            k: some_sections(generator),
+            entries: generator.below(12) as u16,
+        },
+        14..=15 => Call::LongestCentre,
+        16..=17 => Call::Mask {
+            prefix: some_prefix(generator, n),
+        },
+        18..=19 => Call::Radius {
+            centre: some_centre(generator, n),
+        },
+        20..=21 => Call::NextCentre {
+            centre: some_centre(generator, n),
+        },
+        _ => Call::Record {
+            prefix: some_prefix(generator, n),
+            k: some_sections(generator),
+            bytes: generator.below(60) as u16,
+        },
+    }
+}
+
+fn some_start(generator: &mut Generator) -> Call {
+    let most_sections = [generator.below(11), generator.below(256)][generator.below(2)] as u8;
+    Call::Start { most_sections }
+}
+
+/// A list of 0 to 24 entries, mostly of 19 or more, and A, B or C mostly.
+fn some_feed(generator: &mut Generator) -> Call {
+    let entries = match generator.below(8) {
+        0 => generator.below(25),
+        _ => 19 + generator.below(6),
+    } as u16;
+    let pick = match generator.below(12) {
+        0 => [0, 10, 64, 91, 97, 255][generator.below(6)],
+        1 => generator.below(256) as u8,
+        at => b"AAAABBBBCZ"[at - 2],
+    };
+    Call::Feed { pick, entries }
+}
+
+/// A count of sections: 0 to 9, or now and then any byte.
+fn some_sections(generator: &mut Generator) -> u8 {
+    match generator.below(10) {
+        0 => generator.below(256) as u8,
+        _ => generator.below(10) as u8,
+    }
+}
+
+/// A prefix: mostly up to n + 1, often n itself.
+fn some_prefix(generator: &mut Generator, n: usize) -> u16 {
+    match generator.below(8) {
+        0 => generator.below(1 << 16) as u16,
+        1..=3 => n.min(2_048) as u16,
+        _ => generator.below(n.min(2_048) + 2) as u16,
+    }
+}
+
+/// A centre: mostly up to 2n + 2, often among the last of them.
+fn some_centre(generator: &mut Generator, n: usize) -> u16 {
+    let n = n.min(2_048);
+    match generator.below(8) {
+        0 => generator.below(1 << 16) as u16,
+        1..=3 => (2 * n + 2 - generator.below(2 * n + 3).min(6)) as u16,
+        _ => generator.below(2 * n + 3) as u16,
+    }
+}
