@@ -12,6 +12,7 @@ mod splits;
 
 use mirrored::Mirrored;
 use periods::least_periods_of_suffixes;
+use splits::Named;
 
 /// A leading ending: its length and its least period.
 struct Leading {
@@ -26,6 +27,7 @@ pub struct Fast {
     mirrored: Mirrored,
     rows: Vec<u16>,
     leading: Vec<Vec<Leading>>,
+    named: Vec<Named>,
 }
 
 impl Fast {
@@ -37,6 +39,7 @@ impl Fast {
             mirrored: Mirrored::of_empty_draft(),
             rows: vec![1],
             leading: vec![Vec::new()],
+            named: vec![splits::of_empty_draft()],
         };
         for &letter in letters {
             fast.add(letter);
@@ -50,6 +53,7 @@ impl Fast {
         self.mirrored.add_prefix(&self.letters);
         self.rows.push(self.row_by_every_ending());
         self.leading.push(self.leading_endings());
+        self.named.push(self.named_splits());
     }
 
     /// K.

@@ -74,7 +74,7 @@ fn good_calls(n: usize) -> [Call; 8] {
 fn both_sides_of_each_limit() {
     let limits = [0, 1, MOST_PICKS - 1, MOST_PICKS, MOST_PICKS + 1, usize::MAX];
     for n in limits {
-        for most_sections in [0, 1, 8, 9, 255] {
+        for most_sections in [0, 1, 8, 9, 255, 264] {
             let good = n <= MOST_PICKS && (1..=8).contains(&most_sections);
             for call in good_calls(n) {
                 let mut board = Board::filled(|| 1);
@@ -89,10 +89,10 @@ fn both_sides_of_each_limit() {
     }
 }
 
-/// Every stored K from 0 to 255.
+/// Every stored K from 0 to 600.
 #[test]
 fn every_stored_k() {
-    for most_sections in 0..=255 {
+    for most_sections in 0..=600 {
         for call in good_calls(3) {
             let mut board = Board::filled(|| 0);
             board.store(3, most_sections, 4);
@@ -100,6 +100,79 @@ fn every_stored_k() {
             let is_start = matches!(call, Call::Start { .. });
             let good = is_start || (1..=8).contains(&most_sections);
             assert_eq!(number != Some(7), good, "{call:?}, K {most_sections}");
+        }
+    }
+}
+
+/// A call of each kind with an argument that a line of 1 to 4 refuses on every state
+/// but one of line 7.
+fn bad_calls() -> [Call; 7] {
+    [
+        Call::Start { most_sections: 9 },
+        Call::Feed {
+            pick: 64,
+            entries: 19,
+        },
+        Call::Split {
+            prefix: 0,
+            k: 0,
+            entries: 1,
+        },
+        Call::Mask { prefix: u16::MAX },
+        Call::Radius { centre: 0 },
+        Call::NextCentre { centre: 0 },
+        Call::Record {
+            prefix: 0,
+            k: 0,
+            bytes: 40,
+        },
+    ]
+}
+
+/// Stored numbers on both sides of their limits and far beyond them, among them such
+/// as are good ones modulo 2^8, 2^16 or 2^32.
+const STORED: [usize; 16] = [
+    0,
+    1,
+    3,
+    8,
+    9,
+    255,
+    256,
+    264,
+    2_048,
+    2_049,
+    (1 << 16) + 3,
+    (1 << 32) + 3,
+    (1 << 32) + 8,
+    1 << 63,
+    usize::MAX - 247,
+    usize::MAX,
+];
+
+/// Every such n, K and centre, with every call, good and bad: no number is read modulo
+/// anything, so a call is refused with 7 exactly where n or K is outside its limits,
+/// and a call that does not change the state leaves every stored number as it is.
+#[test]
+fn stored_numbers_beyond_their_limits() {
+    let mut state = Board::filled(|| 1);
+    for n in STORED {
+        for most_sections in STORED {
+            let good = n <= MOST_PICKS && (1..=8).contains(&most_sections);
+            for longest in STORED {
+                for call in good_calls(n).into_iter().chain(bad_calls()) {
+                    state.store(n, most_sections, longest);
+                    let is_start = matches!(call, Call::Start { .. });
+                    let case = format!("stored centre {longest}");
+                    let number = if good || is_start {
+                        make_within_bounds(&mut state.clone(), call, &case)
+                    } else {
+                        make_within_bounds(&mut state, call, &case)
+                    };
+                    let stored = format!("{call:?}, n {n}, K {most_sections}, {case}");
+                    assert_eq!(number == Some(7), !good && !is_start, "{stored}");
+                }
+            }
         }
     }
 }

@@ -136,7 +136,7 @@ fn longest_ending() {
 #[test]
 fn start() {
     for stored_n in [0, 2_048, 2_049, usize::MAX] {
-        for stored_k in [0, 8, 9, 255] {
+        for stored_k in [0, 8, 9, 255, 264, usize::MAX] {
             let mut board = Board::filled(|| 3);
             board.store(stored_n, stored_k, 7);
             let case = format!("stored n {stored_n}, K {stored_k}");

@@ -17,7 +17,7 @@ use some_calls::some_call;
 fn some_run(generator: &mut Generator) -> Beside {
     let byte = generator.below(1 << 16) as u16;
     let mut board = Board::filled(|| byte);
-    let stored = generator.below(256) as u8;
+    let stored = generator.below(300);
     board.store(generator.below(5_000), stored, generator.below(9_000));
     Beside::started_on(board, 1 + generator.below(MOST_SECTIONS) as u8)
 }

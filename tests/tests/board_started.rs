@@ -25,13 +25,15 @@ fn stored(generator: &mut Generator) -> Board {
     with_any_numbers(board, generator)
 }
 
-/// Starts on the stored state and feeds the draft; compares each pick with the
-/// tables, and all that is kept at the end.
+/// Starts on the stored state, which is then as after a start on zeros, and feeds the
+/// draft; compares each pick with the tables, and all that is kept at the end.
 fn compare_started(mut board: Board, draft: &[u8], most_sections: usize, name: &str) {
     let (n, k) = (board.n(), board.most_sections());
     let text = String::from_utf8_lossy(draft);
     let name = format!("{name}, {text}, K {most_sections}, on a stored n {n}, K {k}");
     assert_eq!(board.start(most_sections as u8), Ok(()), "{name}");
+    let as_on_zeros = board == Board::started(most_sections);
+    assert!(as_on_zeros, "a byte is not a fresh start's, {name}");
     let fast = Fast::new(draft, most_sections);
     compare_all(&mut board, &fast, draft, &name);
     for &pick in draft {

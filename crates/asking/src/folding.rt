@@ -15,7 +15,7 @@ pub fn fold(
     rows: &ByPlace,
     radius: &ByCentre,
     n: usize,
-    most: u8,
+    most: usize,
     longest: Centre,
     i: Place,
     k: u8,

@@ -20,7 +20,7 @@ use refusals::centre_refusal;
 use refusals::longest_refusal;
 use refusals::mask_refusal;
 
-pub fn mask(rows: &ByPlace, n: usize, k: u8, i: Place) -> MaskAnswer
+pub fn mask(rows: &ByPlace, n: usize, k: usize, i: Place) -> MaskAnswer
     ensures { λ r. ⌜ MaskOn n k (now (rows .entry)) i r ⌝ }
 {
     let number = mask_refusal(n, k, i);
@@ -30,7 +30,7 @@ pub fn mask(rows: &ByPlace, n: usize, k: u8, i: Place) -> MaskAnswer
     MaskAnswer::Mask(mask_byte(at_place(rows, i)))
 }
 
-pub fn radius(radius: &ByCentre, n: usize, k: u8, longest: Centre, c: Centre) -> RadiusAnswer
+pub fn radius(radius: &ByCentre, n: usize, k: usize, longest: Centre, c: Centre) -> RadiusAnswer
     ensures { λ r. ⌜ RadiusOn n k (longest .0) (now (radius .entry)) c r ⌝ }
 {
     let number = centre_refusal(n, k, c);
@@ -40,7 +40,7 @@ pub fn radius(radius: &ByCentre, n: usize, k: u8, longest: Centre, c: Centre) ->
     RadiusAnswer::Radius(radius_at(radius, n, longest, c))
 }
 
-pub fn longest(n: usize, k: u8, longest: Centre) -> CentreAnswer
+pub fn longest(n: usize, k: usize, longest: Centre) -> CentreAnswer
     ensures { λ r. ⌜ LongestOn n k (longest .0) r ⌝ }
 {
     let number = longest_refusal(n, k);
@@ -64,7 +64,7 @@ pub fn next(
     radius: &ByCentre,
     next: &ByCentre,
     n: usize,
-    k: u8,
+    k: usize,
     longest: Centre,
     c: Centre,
 ) -> CentreAnswer

@@ -12,7 +12,7 @@ pub fn split(
     rows: &ByPlace,
     radius: &ByCentre,
     n: usize,
-    most: u8,
+    most: usize,
     longest: Centre,
     i: Place,
     k: u8,

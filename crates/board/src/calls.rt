@@ -1,7 +1,7 @@
 // The calls with the state by value: the fields are lent to the call of the same name, and the state is put together again.
 ghost use mathlib.Core.Path.{_≡_};
-ghost use Rattle.promises.specs.Holds.{draftOf};
-ghost use Rattle.promises.specs.Lent.{started, fed};
+ghost use Rattle.promises.specs.State.{draftOf};
+ghost use Rattle.promises.specs.Lent.{startedAs, fedAs};
 ghost use Rattle.promises.specs.Promises.{StartPromise, FeedPromise, MaskPromise, RadiusPromise, LongestPromise, NextPromise, SplitPromise, RecordPromise};
 use cells::ByCentre;
 use cells::ByPlace;
@@ -31,7 +31,7 @@ fn put_started(
     rows: ByPlace,
     gathered: ByPlace,
 ) -> Started
-    ensures { λ r. ⌜ r ≡ started (s .answer) (draftOf (s .n) (s .k) (s .longest .0) letters radius heads lends next prev rows gathered) ⌝ }
+    ensures { λ r. ⌜ r ≡ startedAs (s .answer) (draftOf (s .n) (s .k) (s .longest .0) letters radius heads lends next prev rows gathered) ⌝ }
 {
     let answer = s.answer;
     let longest = s.longest;
@@ -80,33 +80,34 @@ pub fn start(draft: Draft, k: u8) -> Started
     put_started(s, letters, radius, heads, lends, next, prev, rows, gathered)
 }
 
-// A feed's answer beside the state.
+// A feed's answer beside the state of n picks; the list of the endings' centres is linked forward and backward.
 fn put_fed(
     s: Step,
-    k: u8,
+    n: usize,
+    k: usize,
     letters: Letters,
     radius: ByCentre,
     heads: ByPlace,
     lends: ByCentre,
-    next: ByCentre,
-    prev: ByCentre,
+    forward: ByCentre,
+    backward: ByCentre,
     rows: ByPlace,
     gathered: ByPlace,
 ) -> Fed
-    ensures { λ r. ⌜ r ≡ fed (s .answer) (draftOf (s .n) k (s .longest .0) letters radius heads lends next prev rows gathered) ⌝ }
+    ensures { λ r. ⌜ r ≡ fedAs (s .answer) (draftOf n k (s .longest .0) letters radius heads lends forward backward rows gathered) ⌝ }
 {
     let answer = s.answer;
     let longest = s.longest;
     let state = Draft {
-        n: s.n,
+        n,
         k,
         longest,
         letters,
         radius,
         heads,
         lends,
-        next,
-        prev,
+        next: forward,
+        prev: backward,
         rows,
         gathered,
     };
@@ -142,6 +143,7 @@ pub fn feed(draft: Draft, pick: u8, visits: &mut [u16]) -> Fed
     );
     put_fed(
         s,
+        s.n,
         draft.k,
         letters,
         radius,

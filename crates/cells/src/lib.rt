@@ -3,6 +3,7 @@
 ghost use mathlib.Core.Path.{_≡_};
 ghost use Prim.Native.Nat.{_-_, _<_, min, max};
 ghost use lib.ListN.{getD, set};
+ghost use lib.Seq.{sets};
 
 // A centre, counted in half picks (document 01, "Centres are counted in half picks and places in whole picks").
 pub struct Centre(pub usize);
@@ -14,7 +15,7 @@ pub struct Place(pub usize);
 pub const PICKS: usize = 2048;
 
 // The most sections asked for (document 01, "K, chosen at the start, is 1 to 8").
-pub const SECTIONS: u8 = 8;
+pub const SECTIONS: usize = 8;
 
 // The fewest entries of a visit list (document 01, "Visit list under 19 entries").
 pub const VISITS: usize = 19;
@@ -23,6 +24,11 @@ pub const VISITS: usize = 19;
 pub const FIRST_LETTER: u8 = 65;
 
 pub const LAST_LETTER: u8 = 90;
+
+// The bytes between two fields and at the end of a line (document 01, "fields in a fixed order parted by commas, .. closed by byte 10").
+pub const COMMA: u8 = 44;
+
+pub const LINE_END: u8 = 10;
 
 // A letter for each place that a pick follows; a number for each place; a number for each centre.
 pub type Letters = [u8; PICKS];
@@ -99,6 +105,22 @@ pub fn store_byte(s: &mut [u8], i: usize, v: u8)
 {
     if i < s.len() {
         s[i] = v;
+    }
+}
+
+// The bytes from a place on, as far as they fit.
+pub fn store_bytes(s: &mut [u8], at: usize, bytes: &[u8])
+    ensures { λ r. ⌜ now (s .exit) ≡ sets (now (s .entry)) at (now (bytes .entry)) ⌝ }
+{
+    let mut place = at;
+    let mut j = 0usize;
+    while j < bytes.len() {
+        if s.len() <= place {
+            return;
+        }
+        s[place] = bytes[j];
+        place = place + 1;
+        j = j + 1;
     }
 }
 

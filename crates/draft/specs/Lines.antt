@@ -4,6 +4,12 @@ use mathlib.Core.List.{List, [], _∷_, _++_}
 use Prim.Native.Nat.{ℕ}
 use Rattle.promises.specs.Record.{comma, lineEnd, decimal}
 
+-- `picks,mask,visits,longest`
+unfoldable pub headerLine : List ℕ
+headerLine =
+    112 ∷ 105 ∷ 99 ∷ 107 ∷ 115 ∷ 44 ∷ 109 ∷ 97 ∷ 115 ∷ 107 ∷ 44 ∷ 118 ∷ 105 ∷ 115 ∷ 105 ∷ 116 ∷ 115 ∷ 44 ∷ 108 ∷ 111 ∷ 110 ∷ 103 ∷ 101 ∷ 115 ∷ 116
+    ∷ lineEnd ∷ []
+
 -- a number, and the byte that closes its field
 unfoldable pub field : ℕ → ℕ → List ℕ
 field n close = decimal n ++ close ∷ []

@@ -6,8 +6,8 @@ use native.Mathlib.Nat.{zero-add, pow-le-pow-right}
 use native.Mathlib.Decide.{decLt}
 use native.Mathlib.Numerals.{unary-clauses}
 use native.Mathlib.Omega.{arith}
-use lib.ListN.{length, take, drop, getD, set, drop-of-length-le}
-use lib.Seq.{sets, drop-cons, take-append-seam}
+use lib.ListN.{length, take, drop}
+use lib.Seq.{take-append-seam}
 use borrow.Author.Tests.{lt-ltb}
 use Rattle.io.specs.Counts.{Counts}
 use Rattle.io.specs.Digits.{glyph, digits, Fewest}
@@ -16,18 +16,6 @@ use Rattle.promises.specs.Record.{comma, lineEnd, digitZero, decimal}
 use Rattle.record.specs.Decimal.{decimal-digit, decimal-more}
 use Rattle.record.specs.Stores.{Writes, both, writes-length}
 use Rattle.draft.specs.Lines.{field, pickLine, refusedText, refusalLine}
-
--- Bytes: j of them are stored, the others are left
-
-pub bytes-on : (l l' bytes : List ℕ) (place j : ℕ) → j < length bytes → l' ≡ set l (place + j) (getD bytes j 0)
-    → sets l' (place + (j + 1)) (drop (j + 1) bytes) ≡ sets l (place + j) (drop j bytes)
-bytes-on l l' bytes place j h e =
-    let after : place + (j + 1) ≡ suc (place + j) = omega arith in
-    let next : j + 1 ≡ suc j = omega arith in
-    rw (e, drop-cons bytes j 0 h) (ap₂ (λ x y. sets (set l (place + j) (getD bytes j 0)) x (drop y bytes)) after next)
-
-pub bytes-end : (l bytes : List ℕ) (place j : ℕ) → length bytes ≤ j → sets l place (drop j bytes) ≡ l
-bytes-end l bytes place j h = rw (drop-of-length-le bytes h)
 
 -- The fewest digits that hold a number are its decimal
 

@@ -1,17 +1,19 @@
 // Standard input, a byte at a time: nothing is read past the byte that ends the run.
 ghost use mathlib.Core.Path.{_≡_};
-ghost use Prim.Native.Nat.{_-_};
-ghost use lib.Dec.{leb};
+ghost use mathlib.Core.Bool.{cond};
+ghost use Prim.Native.Nat.{_+_, _-_};
 ghost use Rattle.words.specs.Definitions.{mostSections};
-ghost use Rattle.promises.specs.Record.{digitZero, choose};
-use cells::SECTIONS;
+ghost use Rattle.promises.specs.Refusals.{between};
+ghost use Rattle.promises.specs.Record.{digitZero};
+use cells::LINE_END;
 use libc::STDIN_FILENO;
 
-// The byte that closes the first line, and the picks.
-pub const LINE_END: u8 = 10;
-
-// The byte of the digit 0.
+// The bytes of the digits 0, 1 and 8.
 const ZERO: u8 = 48;
+
+const ONE: u8 = 49;
+
+const EIGHT: u8 = 56;
 
 // A byte of the input, or that there is none left.
 pub enum Input {
@@ -31,13 +33,15 @@ fn next_byte() -> Input {
 
 // The number of a digit 1 to 8; 0 of any other byte.
 fn sections_of(digit: u8) -> u8
-    ensures { λ r. ⌜ r ≡ choose (leb (digit - digitZero) mostSections) (digit - digitZero) 0 ⌝ }
+    ensures { λ r. ⌜ r ≡ cond (between (digitZero + 1) (digitZero + mostSections) digit) (digit - digitZero) 0 ⌝ }
 {
-    if digit < ZERO {
+    if digit < ONE {
         return 0;
     }
-    let k = digit - ZERO;
-    if k <= SECTIONS { k } else { 0 }
+    if EIGHT < digit {
+        return 0;
+    }
+    digit - ZERO
 }
 
 // K, where the first line is one digit 1 to 8 followed by byte 10; else 0, and nothing is read past its first wrong byte.

@@ -1,41 +1,27 @@
 // The lines that are printed: each is built first and then written as one.
 ghost use mathlib.Core.Path.{_≡_};
-ghost use mathlib.Core.List.{[], _∷_};
 ghost use Prim.Native.Nat.{_+_, _≤_};
 ghost use lib.ListN.{length, take};
 ghost use Rattle.io.specs.Counts.{Counts};
 ghost use Rattle.record.specs.Stores.{Writes, far};
-ghost use Rattle.draft.specs.Lines.{field, pickLine, refusalLine};
+ghost use Rattle.draft.specs.Lines.{headerLine, field, pickLine, refusalLine};
 ghost use Rattle.draft.specs.Putting.{mostField, room};
-use crate::input::LINE_END;
-use cells::store_byte;
+use cells::COMMA;
+use cells::LINE_END;
+use cells::store_bytes;
 use libc::STDOUT_FILENO;
-
-const COMMA: u8 = 44;
+use record::bytes::write_byte;
 
 // Room for a line: four numbers of 64 bits and a byte after each.
-const ROOM: usize = 84;
-
-// One byte, and the place after it.
-fn put_byte(byte: u8, line: &mut [u8], at: usize) -> usize
-    requires { ⌜ at ≤ far ⌝ }
-    ensures { λ r. ⌜ Writes (now (line .entry)) at (byte ∷ []) (now (line .exit)) r ⌝ }
-{
-    store_byte(line, at, byte);
-    at + 1
-}
+pub const ROOM: usize = 84;
 
 // The bytes one after another, and the place after them.
 fn put_bytes(bytes: &[u8], line: &mut [u8], at: usize) -> usize
     requires { ⌜ (length (now bytes) ≤ far) × (at ≤ far) ⌝ }
     ensures { λ r. ⌜ Writes (now (line .entry)) at (now (bytes .entry)) (now (line .exit)) r ⌝ }
 {
-    let mut j = 0usize;
-    while j < bytes.len() {
-        store_byte(line, at + j, bytes[j]);
-        j = j + 1;
-    }
-    at + j
+    store_bytes(line, at, bytes);
+    at + bytes.len()
 }
 
 // A number in decimal and the byte that closes its field, and the place after them.
@@ -47,11 +33,11 @@ fn put_field(n: u64, close: u8, line: &mut [u8], at: usize) -> usize
     let mut digits = [0u8; 20];
     let count = io::decimal(n, &mut digits);
     let end = put_bytes(&digits[..count], line, at);
-    put_byte(close, line, end)
+    write_byte(close, line, end)
 }
 
 // The line of a pick at the front of the room, and its count of bytes.
-fn pick_line(picks: usize, mask: u8, visits: usize, longest: usize, line: &mut [u8]) -> usize
+pub fn pick_line(picks: usize, mask: u8, visits: usize, longest: usize, line: &mut [u8]) -> usize
     requires { ⌜ room ≤ length (now line) ⌝ }
     ensures { λ r. ⌜ Counts r (now (line .exit)) ⌝ }
     ensures { λ r. ⌜ take r (now (line .exit)) ≡ pickLine picks mask visits longest ⌝ }
@@ -63,7 +49,7 @@ fn pick_line(picks: usize, mask: u8, visits: usize, longest: usize, line: &mut [
 }
 
 // The line of a refusal at the front of the room, and its count of bytes.
-fn refusal_line(number: u8, place: usize, line: &mut [u8]) -> usize
+pub fn refusal_line(number: u8, place: usize, line: &mut [u8]) -> usize
     requires { ⌜ room ≤ length (now line) ⌝ }
     ensures { λ r. ⌜ Counts r (now (line .exit)) ⌝ }
     ensures { λ r. ⌜ take r (now (line .exit)) ≡ refusalLine number place ⌝ }
@@ -73,15 +59,19 @@ fn refusal_line(number: u8, place: usize, line: &mut [u8]) -> usize
     put_field(place as u64, LINE_END, line, second)
 }
 
-// Writes the header.
-pub fn print_header() {
-    io::write_all(STDOUT_FILENO, b"picks,mask,visits,longest\n");
+// The header at the front of the room, and its count of bytes.
+fn header_line(line: &mut [u8]) -> usize
+    requires { ⌜ room ≤ length (now line) ⌝ }
+    ensures { λ r. ⌜ Counts r (now (line .exit)) ⌝ }
+    ensures { λ r. ⌜ take r (now (line .exit)) ≡ headerLine ⌝ }
+{
+    put_bytes(b"picks,mask,visits,longest\n", line, 0)
 }
 
-// Writes the line of a pick.
-pub fn print_pick(picks: usize, mask: u8, visits: usize, longest: usize) {
+// Writes the header.
+pub fn print_header() {
     let mut line = [0u8; ROOM];
-    let count = pick_line(picks, mask, visits, longest, &mut line);
+    let count = header_line(&mut line);
     io::write_all(STDOUT_FILENO, &line[..count]);
 }
 

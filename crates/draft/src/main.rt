@@ -1,6 +1,7 @@
 // The draft program (document 01, "The draft program reads standard input"): K and the picks in, a line for each pick out.
 use refusals::start_refusal;
 
+mod answer;
 mod input;
 mod line;
 mod picks;

@@ -1,56 +1,22 @@
 // The picks, one after another, on arrays that are lent to the board's calls.
 ghost use mathlib.Core.Path.{_≡_};
-ghost use Prim.Native.Nat.{_+_, _*_, _-_, _≤_};
+ghost use mathlib.Core.Bool.{false};
+ghost use Prim.Native.Nat.{_+_, _≤_};
 ghost use Rattle.words.specs.Definitions.{mostPicks};
+use crate::answer::Turn;
+use crate::answer::answer;
 use crate::input::Input;
 use crate::input::next_pick;
-use crate::line::print_pick;
-use crate::line::print_refusal;
+use crate::line::ROOM;
 use cells::ByCentre;
 use cells::ByPlace;
 use cells::Centre;
 use cells::Letters;
 use cells::PICKS;
-use cells::VISITS;
-use cells::minus;
-use feeding::feed::feed;
 use feeding::start::start;
-use promises::FeedAnswer;
+use libc::STDOUT_FILENO;
 
-// The bytes of the first line.
-const FIRST_LINE: usize = 2;
-
-// What becomes of a pick: taken, with the centre of the longest ending, or refused.
-enum Turn {
-    Taken(Centre),
-    Over,
-}
-
-// The length of the ending of prefix n with this centre.
-fn ending_length(n: usize, centre: Centre) -> usize
-    requires { ⌜ n ≤ mostPicks + 1 ⌝ }
-    ensures { λ r. ⌜ r ≡ 2 * n + 1 - centre .0 ⌝ }
-{
-    minus(2 * n + 1, centre.0)
-}
-
-// Prints the line of feed's answer to the pick after n others; the draft then has n + 1 picks, or the run is over.
-fn print_answer(answer: FeedAnswer, n: usize, centre: Centre) -> Turn
-    requires { ⌜ n ≤ mostPicks ⌝ }
-{
-    match answer {
-        FeedAnswer::Taken(mask, visits) => {
-            print_pick(n + 1, mask, visits, ending_length(n + 1, centre));
-            Turn::Taken(centre)
-        }
-        FeedAnswer::Refused(number) => {
-            print_refusal(number, FIRST_LINE + n);
-            Turn::Over
-        }
-    }
-}
-
-// Feeds the pick after n others and prints its line.
+// Feeds the pick after n others and writes its line.
 fn take_pick(
     letters: &mut Letters,
     radius: &mut ByCentre,
@@ -61,14 +27,15 @@ fn take_pick(
     rows: &mut ByPlace,
     gathered: &mut ByPlace,
     n: usize,
-    k: u8,
+    k: usize,
     longest: Centre,
     pick: u8,
 ) -> Turn
     requires { ⌜ n ≤ mostPicks ⌝ }
+    ensures { λ r. ⌜ (r .over ≡ false → r .n ≡ n + 1) ⌝ }
 {
-    let mut visits = [0u16; VISITS];
-    let step = feed(
+    let mut line = [0u8; ROOM];
+    let turn = answer(
         letters,
         radius,
         heads,
@@ -77,15 +44,15 @@ fn take_pick(
         prev,
         rows,
         gathered,
-        &mut visits,
+        &mut line,
         n,
         k,
         longest,
         pick,
     );
-    let answer = step.answer;
-    let centre = step.longest;
-    print_answer(answer, n, centre)
+    let bytes = turn.bytes;
+    io::write_all(STDOUT_FILENO, &line[..bytes]);
+    turn
 }
 
 // Takes the picks of the input one by one, into a draft that is empty yet. Pick 2,049 is refused, so it is the last.
@@ -98,7 +65,7 @@ fn take_picks(
     prev: &mut ByCentre,
     rows: &mut ByPlace,
     gathered: &mut ByPlace,
-    k: u8,
+    k: usize,
     empty: Centre,
 ) {
     let mut longest = empty;
@@ -121,11 +88,11 @@ fn take_picks(
             longest,
             pick,
         );
-        let Turn::Taken(centre) = turn else {
+        if turn.over {
             return;
-        };
-        longest = centre;
-        n = n + 1;
+        }
+        longest = turn.longest;
+        n = turn.n;
     }
 }
 

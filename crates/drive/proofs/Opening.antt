@@ -1,4 +1,4 @@
--- A script that opens with an accepted start: demands 2 and 3 and the transcript hold of what `drive` did.
+-- A script that opens with an accepted start: what is proved of every run holds of what `drive` did.
 use mathlib.Core.Path.{_≡_, refl, sym, ap, ap₂, _∙_}
 use mathlib.Core.List.{List, [], _∷_, _++_, map}
 use Prim.Native.Nat.{ℕ, _/_}
@@ -6,14 +6,17 @@ use native.Mathlib.Omega.{arith}
 use lib.ListN.{length, length-map}
 use Rattle.promises.specs.declared.Draft.{Draft}
 use Rattle.promises.specs.declared.Started.{Started}
-use Rattle.promises.specs.Answers.{Reply}
-use Rattle.promises.specs.Book.{Call, start, blank}
-use Rattle.promises.specs.Replies.{filled, replies}
+use Rattle.promises.specs.Answers.{Reply, filled}
+use Rattle.promises.specs.Book.{Call, start, blank, bookOf}
+use Rattle.promises.specs.State.{stateOfBook}
+use Rattle.promises.specs.Replies.{replies}
 use Rattle.promises.specs.Runs.{Made, started, fed, splitted, longestAsked, maskAsked, radiusAsked, nextAsked, folded, callOf, calls, replyOf}
 use Rattle.promises.specs.Demands.{Opened}
+use Rattle.promises.proofs.Demand1.{demand1-run}
 use Rattle.promises.proofs.Demand2.{demand2}
 use Rattle.promises.proofs.Demand3.{demand3}
 use Rattle.promises.proofs.Transcript.{transcript}
+use Rattle.promises.proofs.Stored.{words-hold, state-of-book}
 use Rattle.drive.specs.Script.{fromLists, fromBytes, asked}
 use Rattle.drive.specs.Drives.{encoded, joined, Drives}
 use Rattle.drive.specs.Opening.{together, Opens, OpeningHolds}
@@ -66,10 +69,13 @@ opening d e script lists bytes answers count lists' bytes' answers' o h =
     let s = first script lists bytes answers o h in (
       record {
         counts = h .counts ∙ sym (length-map (h .made) callOf) ∙ ap length (h .asks);
+        state = h .state ∙ rw (s .is) (state-of-book d (o .K) (s .r) (s .others) p) ∙ ap (λ cs. stateOfBook (bookOf cs)) (h .asks);
         entries = h .entries ∙ ap (λ z. filled z lists) (l (λ c r. fromLists c (r .list)));
         output = h .output ∙ ap (λ z. filled z bytes) (l (λ c r. fromBytes c (r .list)));
         told = h .told ∙ ap (λ z. filled z answers) (l (λ c r. encoded (r .said)));
       },
+      rw (s .is) (demand1-run d (o .K) (s .r) (s .others) p),
       rw (s .is) (demand2 d (o .K) (s .r) (s .others) p),
       rw (s .is) (demand3 d (o .K) (s .r) (s .others) p),
+      rw (s .is) (words-hold d (o .K) (s .r) (s .others) p),
     )

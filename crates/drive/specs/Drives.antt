@@ -1,19 +1,18 @@
 -- What `drive` does: the contract that its declaration cites.
 use mathlib.Core.Path.{_≡_}
 use mathlib.Core.List.{List, [], _∷_, _++_}
-use Prim.Native.Nat.{ℕ, _/_, _%_}
+use Prim.Native.Nat.{ℕ, _/_}
 use lib.ListN.{length, getD}
 use Rattle.promises.specs.declared.Draft.{Draft}
-use Rattle.promises.specs.Answers.{Said, gave, refused}
-use Rattle.promises.specs.Replies.{filled}
-use Rattle.promises.specs.Holds.{draftOf}
+use Rattle.promises.specs.Answers.{Said, gave, refused, filled}
+use Rattle.promises.specs.State.{draftOf}
 use Rattle.promises.specs.Runs.{Made, callOf, calls, replyOf, Run, last}
 use Rattle.drive.specs.Script.{fromLists, fromBytes, asked}
 
--- The state that the arrays and the numbers are: n, K and the centre of the longest ending. K is read modulo 256, at entry and at exit.
+-- The state that the arrays and the numbers are: n, K and the centre of the longest ending, each as it is stored.
 abbrev pub stateOf : (numbers letters radius heads lends next prev rows gathered : List ℕ) → Draft
 stateOf numbers letters radius heads lends next prev rows gathered =
-    draftOf (getD numbers 0 0) (getD numbers 1 0 % 256) (getD numbers 2 0) letters radius heads lends next prev rows gathered
+    draftOf (getD numbers 0 0) (getD numbers 1 0) (getD numbers 2 0) letters radius heads lends next prev rows gathered
 
 -- An answer in three numbers: 0 and the values given, or 1 and the number under which it refuses; 0 where there is none
 abbrev pub encoded : Said → List ℕ

@@ -21,7 +21,7 @@ use Rattle.promises.specs.declared.RecordAnswer.{RecordAnswer}
 use Rattle.promises.specs.Answers.{startSays, feedSays, maskSays, radiusSays, centreSays, splitSays, recordSays}
 use Rattle.promises.specs.Book as book
 use Rattle.promises.specs.Book.{Call}
-use Rattle.promises.specs.Holds.{draftOf}
+use Rattle.promises.specs.State.{draftOf}
 use Rattle.promises.specs.Promises.{StartPromise, FeedPromise}
 use Rattle.promises.specs.Lent as lent
 use Rattle.promises.specs.Lent.{MaskOn, RadiusOn, LongestOn, NextOn, SplitOn, RecordOn}
@@ -229,13 +229,13 @@ unfolding lent
 none-lent q d h m list call l lists bytes =
     rw (lt-leb _ _ l) (stays (record { ends = refl; state = sym (kept q d h); entries = refl; output = refl }))
 
-pub start-makes : (d e : Draft) (K : ℕ) (answer : StartAnswer) (told : Told) → StartPromise d K (lent.started answer e)
+pub start-makes : (d e : Draft) (K : ℕ) (answer : StartAnswer) (told : Told) → StartPromise d K (lent.startedAs answer e)
     → numbersOf told ≡ encoded (startSays answer)
     → (lists bytes : List ℕ) → Makes d (book.start K) lists bytes (turnOf told (e .n) (e .k) (e .longest .0) 0 0) e lists bytes
 unfolding Meets callOf replyOf leaves lentTo fromLists fromBytes
 start-makes d e K answer told p s lists bytes = record {
   one = refl;
-  made = started K (lent.started answer e);
+  made = started K (lent.startedAs answer e);
   meets = p;
   call = refl;
   left = refl;
@@ -247,14 +247,14 @@ start-makes d e K answer told p s lists bytes = record {
 }
 
 pub feed-makes : (d e : Draft) (pick m : ℕ) (lists left : List ℕ) (answer : FeedAnswer) (told : Told) → m ≤ length lists → length left ≡ m
-    → FeedPromise d pick (take m lists) (lent.fed answer e) left
+    → FeedPromise d pick (take m lists) (lent.fedAs answer e) left
     → numbersOf told ≡ encoded (feedSays answer)
     → (bytes : List ℕ) → Turns d lists bytes (turnOf told (e .n) (e .k) (e .longest .0) m 0) e (left ++ drop m lists) bytes
     (lent m lists (λ visits. book.feed pick visits))
 unfolding lent Meets callOf replyOf leaves lentTo fromLists fromBytes
 feed-makes d e pick m lists left answer told l z p s bytes = rw (le-leb _ _ l) (makes (record {
   one = refl;
-  made = fed pick (take m lists) (lent.fed answer e) left;
+  made = fed pick (take m lists) (lent.fedAs answer e) left;
   meets = p;
   call = refl;
   left = refl;

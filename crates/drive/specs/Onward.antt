@@ -1,6 +1,6 @@
 -- How `drive` goes through a script: from turn to turn, and at its end.
 use mathlib.Core.Path.{_≡_, refl, sym, _∙_}
-use mathlib.Core.Bool.{Bool, true, false}
+use mathlib.Core.Bool.{Bool, true, false, true≢false, false≢true}
 use mathlib.Core.List.{List, [], _∷_, _++_, append-assoc}
 use mathlib.Core.Option.{Option, some, none}
 use Prim.Native.Nat.{ℕ, suc, _+_, _-_, _*_, _/_, _≤_, _<_}
@@ -10,13 +10,13 @@ use native.Mathlib.Decide.{decLt}
 use lib.ListN.{length, take, drop, length-drop, length-append, take-append-drop}
 use lib.Seq.{drop-drop}
 use borrow.Author.Tests.{le-leb}
+use Rattle.promises.specs.Answers.{filled}
 use Rattle.promises.specs.declared.Draft.{Draft}
 use Rattle.promises.specs.Book.{Call}
-use Rattle.promises.specs.Replies.{filled}
 use Rattle.promises.specs.Runs.{Made, callOf, Meets, leaves, Run, last}
 use Rattle.drive.specs.Script.{nextCall, entriesLent, bytesLent, orEnd, asked}
 use Rattle.drive.specs.Drives.{answersOf, entriesOf, bytesOf, joined, Drives}
-use Rattle.drive.specs.Parts.{lends-rest, lends-front, lends-length, not-both}
+use Rattle.drive.specs.Parts.{lends-rest, lends-front, lends-length}
 use Rattle.drive.specs.Requests.{called, has-room}
 use Rattle.drive.specs.Turns.{cursor, calledAt, Goes, Halts, Turned, halted, went}
 use Rattle.drive.specs.declared.Cursor.{Cursor}
@@ -111,7 +111,7 @@ inside-first d script lists bytes answers = record {
   written = omega arith;
   told = omega arith;
   onward = λ _ count e ls bs ans h. rw (zero-add count) h;
-  done = λ z. not-both true refl z;
+  done = λ z. absurd (true≢false z);
 }
 
 module _ {d₀ d e : Draft} {script lists₀ bytes₀ answers₀ lists bytes answers lists' bytes' answers' : List ℕ} {at r : Cursor}
@@ -131,7 +131,7 @@ module _ {d₀ d e : Draft} {script lists₀ bytes₀ answers₀ lists bytes ans
         listed = h .listed;
         written = h .written;
         told = h .told;
-        onward = λ z. not-both false z refl;
+        onward = λ z. absurd (false≢true z);
         done = λ _. rw (
           add-zero (at .made),
           take-append-drop (at .listed) lists,
@@ -176,7 +176,7 @@ module _ {d₀ d e : Draft} {script lists₀ bytes₀ answers₀ lists bytes ans
     written = omega (arith, f .written .fits, lends-length (f .written));
     told = omega (arith, f .told .fits, lends-length (f .told));
     onward = λ _. onward-goes c f o;
-    done = λ z. not-both true refl z;
+    done = λ z. absurd (true≢false z);
   })
 
   pub inside-next : {o : Option Call} → Turned d lists bytes answers at r e lists' bytes' answers' o

@@ -1,14 +1,16 @@
--- A script that opens with an accepted start, whatever the arrays held: what `drive` writes follows from the script and what it lends.
+-- A script that opens with an accepted start, whatever the arrays held: all that `drive` writes, the state included, follows from the script
+-- and what it lends.
 use mathlib.Core.Path.{_≡_}
 use mathlib.Core.List.{List, [], _∷_, _++_}
 use Prim.Native.Nat.{ℕ, _/_, _≤_}
 use lib.ListN.{length}
 use Rattle.words.specs.Definitions.{mostSections}
 use Rattle.promises.specs.declared.Draft.{Draft}
-use Rattle.promises.specs.Answers.{Reply}
-use Rattle.promises.specs.Book.{Call, start, blank}
-use Rattle.promises.specs.Replies.{filled, replies}
-use Rattle.promises.specs.Demands.{Demand2, Demand3}
+use Rattle.promises.specs.Answers.{Reply, filled}
+use Rattle.promises.specs.Book.{Call, start, blank, bookOf}
+use Rattle.promises.specs.State.{stateOfBook}
+use Rattle.promises.specs.Replies.{replies}
+use Rattle.promises.specs.Demands.{Demand1Run, Demand2, Demand3, WordsRight}
 use Rattle.drive.specs.Script.{fromLists, fromBytes, asked}
 use Rattle.drive.specs.Drives.{encoded, Drives}
 
@@ -18,9 +20,10 @@ together f [] rs = []
 together f (c ∷ cs) [] = []
 together f (c ∷ cs) (r ∷ rs) = f c r ++ together f cs rs
 
--- cs are the script's calls: what they reply is read from the plain book
-pub record Outcome (cs : List Call) (lists bytes answers : List ℕ) (count : ℕ) (lists' bytes' answers' : List ℕ) : Type 0 where
+-- cs are the script's calls: what they reply, and the state that they leave, is read from the plain book
+pub record Outcome (cs : List Call) (lists bytes answers : List ℕ) (count : ℕ) (e : Draft) (lists' bytes' answers' : List ℕ) : Type 0 where
   pub counts : count ≡ length cs
+  pub state : e ≡ stateOfBook (bookOf cs)
   pub entries : lists' ≡ filled (together (λ c r. fromLists c (r .list)) cs (replies blank cs)) lists
   pub output : bytes' ≡ filled (together (λ c r. fromBytes c (r .list)) cs (replies blank cs)) bytes
   pub told : answers' ≡ filled (together (λ c r. encoded (r .said)) cs (replies blank cs)) answers
@@ -36,5 +39,5 @@ pub record Opens (script lists bytes answers : List ℕ) : Type 0 where
 abbrev pub OpeningHolds : Type 0
 OpeningHolds = (d e : Draft) (script lists bytes answers : List ℕ) (count : ℕ) (lists' bytes' answers' : List ℕ)
     → Opens script lists bytes answers → (h : Drives d script lists bytes answers count e lists' bytes' answers')
-    → Outcome (asked (length answers / 3) script lists bytes) lists bytes answers count lists' bytes' answers'
-    × Demand2 d (h .made) × Demand3 d (h .made)
+    → Outcome (asked (length answers / 3) script lists bytes) lists bytes answers count e lists' bytes' answers'
+    × Demand1Run (h .made) × Demand2 d (h .made) × Demand3 d (h .made) × WordsRight d (h .made)

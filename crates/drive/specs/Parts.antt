@@ -1,12 +1,10 @@
 -- Parts of a list: what was passed, what is lent, and the rest.
 use mathlib.Core.Path.{_≡_, sym, ap, _∙_}
-use mathlib.Core.Bool.{Bool, true, false}
 use mathlib.Core.List.{List, _++_, append-nil, append-assoc}
-use Prim.Native.Nat.{ℕ, _+_, _-_, _≤_, _<_}
+use Prim.Native.Nat.{ℕ, _+_, _-_, _≤_}
 use native.Mathlib.Omega.{arith}
-use native.Mathlib.Numerals.{add-one}
-use lib.ListN.{length, getD, set, take, drop, length-drop, length-append, drop-of-length-le}
-use lib.Seq.{take-all, drop-drop, drop-cons, take-at, drop-at, length-take-le, sets, sets-eq}
+use lib.ListN.{length, take, drop, length-drop, length-append, drop-of-length-le}
+use lib.Seq.{take-all, drop-drop, take-at, drop-at, length-take-le, sets, sets-eq}
 
 -- the first k of a list were lent, and now stand as they were left
 pub record Lends (list : List ℕ) (k : ℕ) (left after : List ℕ) : Type 0 where
@@ -53,16 +51,3 @@ module _ {list : List ℕ} {a k : ℕ} {left after : List ℕ} (l : LendsAt list
 
   pub lends-length : length after ≡ length list
   lends-length = ap length (l .is) ∙ omega (arith, length-append (take a list ++ left) (drop (a + k) list), front, length-drop (a + k) list, l .fits)
-
--- Copying: those before j are stored
-
-pub copies-on : (source list after : List ℕ) (j : ℕ) → j < length source → after ≡ set list j (getD source j 0)
-    → sets after (j + 1) (drop (j + 1) source) ≡ sets list j (drop j source)
-copies-on source list after j h e = rw (e, add-one j, drop-cons source j 0 h)
-
-pub copies-end : (source list : List ℕ) (j : ℕ) → length source ≤ j → list ≡ sets list j (drop j source)
-copies-end source list j h = rw (drop-of-length-le source h)
-
--- A flag is not up and down
-pub not-both : {A : Type 0} (b : Bool) → b ≡ true → b ≡ false → A
-not-both b p q = let z : _≡_ {A = ℕ} 0 1 = cc in absurd (omega arith)

@@ -1,22 +1,21 @@
 -- The next call as the code reads it.
 use mathlib.Core.Path.{_≡_, refl}
-use mathlib.Core.Bool.{Bool, true, false}
+use mathlib.Core.Bool.{Bool, true, false, cond}
 use mathlib.Core.List.{List}
 use mathlib.Core.Option.{Option, some, none}
-use Prim.Native.Nat.{ℕ, _+_, _%_, _≤_, _<_}
+use Prim.Native.Nat.{ℕ, _+_, _≤_, _<_}
 use native.Mathlib.Omega.{arith}
 use native.Mathlib.Decide.{decLt}
 use borrow.Author.Tests.{le-leb, lt-leb}
 use lib.Dec.{leb}
 use lib.ListN.{length, getD, List·getD-eq-default}
-use Rattle.promises.specs.Record.{choose}
 use Rattle.promises.specs.Book.{Call, start, feed, split, longest, mask, radius, next, fold}
 use Rattle.drive.specs.Script.{pair, lent, numbered, nextCall}
 use Rattle.drive.specs.declared.request.Request.{Request}
 
 -- no call, on the state of these numbers
 abbrev pub ended : (numbers : List ℕ) → Request
-ended numbers = record { op = 8; b = 0; x = 0; m = 0; n = getD numbers 0 0; k = getD numbers 1 0 % 256; longest = getD numbers 2 0 }
+ended numbers = record { op = 8; b = 0; x = 0; m = 0; n = getD numbers 0 0; k = getD numbers 1 0; longest = getD numbers 2 0 }
 
 -- the call of the first six bytes
 abbrev pub requestOf : (script numbers : List ℕ) → Request
@@ -26,7 +25,7 @@ requestOf script numbers = record {
   x = pair script 2;
   m = pair script 4;
   n = getD numbers 0 0;
-  k = getD numbers 1 0 % 256;
+  k = getD numbers 1 0;
   longest = getD numbers 2 0;
 }
 
@@ -36,7 +35,7 @@ callFor q lists bytes = getD (numbered (q .b) (q .x) (q .m) lists bytes) (q .op)
 
 -- the next call, where there is room for its answer
 abbrev pub called : (script lists bytes : List ℕ) (room : ℕ) → Option Call
-called script lists bytes room = choose (leb 3 room) (nextCall script lists bytes) none
+called script lists bytes room = cond (leb 3 room) (nextCall script lists bytes) none
 
 pub has-room : (script lists bytes : List ℕ) (room : ℕ) (c : Call) → called script lists bytes room ≡ some c → 3 ≤ room
 has-room script lists bytes room c e = elim (decLt room 3) [
@@ -47,13 +46,13 @@ has-room script lists bytes room c e = elim (decLt room 3) [
 -- q is the request of the next call, on the state of these numbers
 pub record Requests (script : List ℕ) (room : ℕ) (numbers : List ℕ) (q : Request) : Type 0 where
   pub n : q .n ≡ getD numbers 0 0
-  pub k : q .k ≡ getD numbers 1 0 % 256
+  pub k : q .k ≡ getD numbers 1 0
   pub longest : q .longest ≡ getD numbers 2 0
   pub calls : (lists bytes : List ℕ) → callFor q lists bytes ≡ called script lists bytes room
 
-choose-same : (b : Bool) → _≡_ {A = Option Call} (choose b none none) none
-choose-same true = refl
-choose-same false = refl
+cond-same : (b : Bool) → _≡_ {A = Option Call} (cond b none none) none
+cond-same true = refl
+cond-same false = refl
 
 pub request-here : (script numbers : List ℕ) (room : ℕ) → 6 ≤ length script → 3 ≤ room → Requests script room numbers (requestOf script numbers)
 unfolding nextCall
@@ -62,7 +61,7 @@ request-here script numbers room s r =
 
 pub script-ends : (script numbers : List ℕ) (room : ℕ) → length script < 6 → Requests script room numbers (ended numbers)
 unfolding nextCall numbered
-script-ends script numbers room s = record { n = refl; k = refl; longest = refl; calls = λ lists bytes. simp (lt-leb _ _ s, choose-same) }
+script-ends script numbers room s = record { n = refl; k = refl; longest = refl; calls = λ lists bytes. simp (lt-leb _ _ s, cond-same) }
 
 pub room-ends : (script numbers : List ℕ) (room : ℕ) → room < 3 → Requests script room numbers (ended numbers)
 unfolding numbered

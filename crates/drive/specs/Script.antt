@@ -1,10 +1,10 @@
 -- The script of `drive`: the calls that it asks for, six bytes each: the call's number, b, and x and m of two bytes, the low one first.
+use mathlib.Core.Bool.{cond}
 use mathlib.Core.List.{List, [], _∷_}
 use mathlib.Core.Option.{Option, some, none}
 use Prim.Native.Nat.{ℕ, zero, suc, _+_, _*_}
 use lib.Dec.{leb}
 use lib.ListN.{length, getD, take, drop}
-use Rattle.promises.specs.Record.{choose}
 use Rattle.promises.specs.Book.{Call, start, feed, split, longest, mask, radius, next, fold}
 use Rattle.promises.specs.Book.{lent as lentTo}
 
@@ -14,7 +14,7 @@ pair script i = getD script i 0 + 256 * getD script (i + 1) 0
 
 -- a call that is lent the next m of a list, where so many are left
 unfoldable pub lent : (m : ℕ) (list : List ℕ) (call : List ℕ → Call) → Option Call
-lent m list call = choose (leb m (length list)) (some (call (take m list))) none
+lent m list call = cond (leb m (length list)) (some (call (take m list))) none
 
 -- the calls by their numbers; lists and bytes are what is left to lend
 unfoldable pub numbered : (b x m : ℕ) (lists bytes : List ℕ) → List (Option Call)
@@ -34,7 +34,7 @@ numbered b x m lists bytes =
 unfoldable pub nextCall : (script lists bytes : List ℕ) → Option Call
 unfolding numbered
 nextCall script lists bytes =
-    choose (leb 6 (length script)) (getD (numbered (getD script 1 0) (pair script 2) (pair script 4) lists bytes) (getD script 0 0) none) none
+    cond (leb 6 (length script)) (getD (numbered (getD script 1 0) (pair script 2) (pair script 4) lists bytes) (getD script 0 0) none) none
 
 -- the list, of a call that is lent entries of lists; [] of any other
 unfoldable pub fromLists : Call → (list : List ℕ) → List ℕ

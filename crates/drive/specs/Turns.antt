@@ -3,17 +3,18 @@ use mathlib.Core.Path.{_≡_, refl, sym, ap, subst, _∙_}
 use mathlib.Core.Bool.{Bool, true, false}
 use mathlib.Core.List.{List, _++_}
 use mathlib.Core.Option.{Option, some, none}
-use Prim.Native.Nat.{ℕ, _+_, _-_, _*_, _%_, _≤_, _<_}
+use Prim.Native.Nat.{ℕ, _+_, _-_, _*_, _≤_, _<_}
 use native.Mathlib.Omega.{arith}
 use lib.ListN.{length, getD, take, drop, length-drop, take-append-drop}
 use lib.Seq.{sets}
 use Rattle.promises.specs.declared.Draft.{Draft}
 use Rattle.promises.specs.Book.{Call}
 use Rattle.promises.specs.Runs.{Made, callOf, Meets, leaves}
+use Rattle.promises.specs.Taking.{true-false}
 use Rattle.drive.specs.Script.{entriesLent, bytesLent}
 use Rattle.drive.specs.Drives.{stateOf, answersOf, entriesOf, bytesOf}
 use Rattle.drive.specs.Told.{numbersOf}
-use Rattle.drive.specs.Parts.{LendsAt, lends-at, lends-sets, not-both}
+use Rattle.drive.specs.Parts.{LendsAt, lends-at, lends-sets}
 use Rattle.drive.specs.Requests.{callFor, called, Requests, has-room}
 use Rattle.drive.specs.Makes.{Makes, Stays, Turns, stays, makes}
 use Rattle.drive.specs.declared.request.Request.{Request}
@@ -74,7 +75,7 @@ renumbered numbers d =
 pub record Stores (answers : List ℕ) (at : Cursor) (t : Turn) (r : Cursor) (numbers' answers' : List ℕ) : Type 0 where
   pub on : r ≡ cursor true (at .made + 1) (at .listed + t .entries) (at .written + t .output)
   pub n : getD numbers' 0 0 ≡ t .n
-  pub k : getD numbers' 1 0 % 256 ≡ t .k
+  pub k : getD numbers' 1 0 ≡ t .k
   pub longest : getD numbers' 2 0 ≡ t .longest
   pub told : answers' ≡ sets answers (3 * at .made) (numbersOf (t .told))
 
@@ -101,20 +102,20 @@ pub room-for : {o : Option Call} (script lists bytes answers : List ℕ) (at : C
     → Turns d ls bs t e part piece o → ls ≡ drop (at .listed) lists → bs ≡ drop (at .written) bytes
     → at .listed ≤ length lists → at .written ≤ length bytes → length lists < far → length bytes < far
     → t .made ≡ true → Room answers at t
-room-for script lists bytes answers at q (stays f) x y h i j k m = not-both _ m (f .ends)
+room-for script lists bytes answers at q (stays f) x y h i j k m = absurd (true-false m (f .ends))
 room-for script lists bytes answers at q (makes {c} f) x y h i j k m = record {
   told = omega (arith, has-room (drop (6 * at .made) script) (drop (at .listed) lists) (drop (at .written) bytes) (length answers - 3 * at .made) c q);
   listed = omega (arith, f .listed .fits, ap length x, length-drop (at .listed) lists);
   written = omega (arith, f .written .fits, ap length y, length-drop (at .written) bytes);
 }
 
-same-numbers : (numbers : List ℕ) (d : Draft) → d .n ≡ getD numbers 0 0 → d .k ≡ getD numbers 1 0 % 256 → d .longest .0 ≡ getD numbers 2 0
+same-numbers : (numbers : List ℕ) (d : Draft) → d .n ≡ getD numbers 0 0 → d .k ≡ getD numbers 1 0 → d .longest .0 ≡ getD numbers 2 0
     → d ≡ renumbered numbers d
 same-numbers numbers d p q r = rw (← p, ← q, ← r)
 
 -- d and e are the states before and after the turn, part and piece what was left to lend, afterwards
 module _ {numbers numbers' lists bytes answers answers' : List ℕ} {at r : Cursor} {d e : Draft} {t : Turn} {part piece : List ℕ}
-    (n : d .n ≡ getD numbers 0 0) (k : d .k ≡ getD numbers 1 0 % 256) (longest : d .longest .0 ≡ getD numbers 2 0)
+    (n : d .n ≡ getD numbers 0 0) (k : d .k ≡ getD numbers 1 0) (longest : d .longest .0 ≡ getD numbers 2 0)
     (n' : e .n ≡ t .n) (k' : e .k ≡ t .k) (longest' : e .longest .0 ≡ t .longest)
     (listed : at .listed ≤ length lists) (written : at .written ≤ length bytes)
     (settles : Settles numbers answers at t r numbers' answers') where

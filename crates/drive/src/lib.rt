@@ -24,7 +24,7 @@ use crate::told::lift_told;
 use cells::ByCentre;
 use cells::ByPlace;
 use cells::Letters;
-use cells::store_byte;
+use cells::store_bytes;
 
 // How far the script has been followed: the calls made, and the entries and bytes lent to them; on until it ends.
 struct Cursor {
@@ -69,7 +69,7 @@ fn settle(numbers: &mut [usize; 3], answers: &mut [usize], at: Cursor, t: Turn) 
     ensures { λ r. ⌜ Settles (now (numbers .entry)) (now (answers .entry)) at t r (now (numbers .exit)) (now (answers .exit)) ⌝ }
 {
     if t.made {
-        *numbers = [t.n, wide(t.k), t.longest];
+        *numbers = [t.n, t.k, t.longest];
         let told = t.told;
         tell(answers, 3 * at.made, told);
         return Cursor {
@@ -145,8 +145,7 @@ pub extern "C" fn drive(
     bytes: &mut [u8],
     answers: &mut [usize],
 ) -> usize
-    ensures { λ r. ⌜ Drives (stateOf (now (numbers .entry)) (now (letters .entry)) (now (radius .entry)) (now (heads .entry)) (now (lends .entry)) (now (next .entry)) (now (prev .entry)) (now (rows .entry)) (now (gathered .entry)))
-        (now (script .entry)) (now (lists .entry)) (now (bytes .entry)) (now (answers .entry))
+    ensures { λ r. ⌜ Drives (stateOf (now (numbers .entry)) (now (letters .entry)) (now (radius .entry)) (now (heads .entry)) (now (lends .entry)) (now (next .entry)) (now (prev .entry)) (now (rows .entry)) (now (gathered .entry))) (now (script .entry)) (now (lists .entry)) (now (bytes .entry)) (now (answers .entry))
         r (stateOf (now (numbers .exit)) (now (letters .exit)) (now (radius .exit)) (now (heads .exit)) (now (lends .exit)) (now (next .exit)) (now (prev .exit)) (now (rows .exit)) (now (gathered .exit))) (now (lists .exit)) (now (bytes .exit)) (now (answers .exit)) ⌝ }
 {
     let mut at = outset();
@@ -171,17 +170,6 @@ pub extern "C" fn drive(
     at.made
 }
 
-// As many bytes as fit.
-fn copy(from: &[u8], into: &mut [u8])
-    ensures { λ r. ⌜ now (into .exit) ≡ sets (now (into .entry)) 0 (now (from .entry)) ⌝ }
-{
-    let mut j = 0usize;
-    while j < from.len() {
-        store_byte(into, j, from[j]);
-        j = j + 1;
-    }
-}
-
 // Section s of the letters, as far as it fits the part; the answer is the companion's number and the section's length.
 #[no_mangle]
 pub extern "C" fn drive_show(
@@ -199,7 +187,7 @@ pub extern "C" fn drive_show(
     let number = board::show::show_number(letters, ends, s);
     let section = board::show::show(letters, ends, s);
     *answer = [wide(number), section.len()];
-    copy(section, part);
+    store_bytes(part, 0, section);
     0
 }
 

@@ -1,7 +1,7 @@
 // One call on the lent arrays, by its number.
 ghost use mathlib.Core.Path.{_≡_};
 ghost use Rattle.promises.specs.Answers.{startSays, feedSays};
-ghost use Rattle.promises.specs.Holds.{draftOf};
+ghost use Rattle.promises.specs.State.{draftOf};
 ghost use Rattle.drive.specs.Drives.{encoded};
 ghost use Rattle.drive.specs.Requests.{callFor};
 ghost use Rattle.drive.specs.Told.{numbersOf};
@@ -28,7 +28,7 @@ pub struct Turn {
     pub made: bool,
     pub told: Told,
     pub n: usize,
-    pub k: u8,
+    pub k: usize,
     pub longest: usize,
     pub entries: usize,
     pub output: usize,

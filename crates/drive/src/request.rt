@@ -16,7 +16,7 @@ pub struct Request {
     pub m: usize,
     // The picks so far, K, the centre of the longest ending.
     pub n: usize,
-    pub k: u8,
+    pub k: usize,
     pub longest: usize,
 }
 
@@ -37,7 +37,7 @@ fn ended(numbers: &[usize; 3]) -> Request
         x: 0,
         m: 0,
         n: numbers[0],
-        k: (numbers[1] % 256) as u8,
+        k: numbers[1],
         longest: numbers[2],
     }
 }
@@ -52,7 +52,7 @@ fn request_of(script: &[u8], numbers: &[usize; 3]) -> Request
         x: pair(byte_at(script, 2), byte_at(script, 3)),
         m: pair(byte_at(script, 4), byte_at(script, 5)),
         n: numbers[0],
-        k: (numbers[1] % 256) as u8,
+        k: numbers[1],
         longest: numbers[2],
     }
 }

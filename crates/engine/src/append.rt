@@ -1,5 +1,4 @@
 // Section 4, append: the core.
-ghost use mathlib.Core.Path.{_≡_};
 ghost use Prim.Native.Nat.{_≤_, _<_};
 ghost use Rattle.words.specs.Definitions.{mostPicks, mostSections};
 ghost use Rattle.models.specs.Core.{arrays, after, Appends};
@@ -28,7 +27,7 @@ pub fn append(
     gathered: &mut ByPlace,
     visits: &mut [u16],
     n: usize,
-    k: u8,
+    k: usize,
     stored: Centre,
     pick: u8,
 ) -> Appended

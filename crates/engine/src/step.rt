@@ -24,16 +24,16 @@ fn longest_length(n: usize, s: Centre) -> usize
 }
 
 // The first number that is no row word under k.
-fn row_end(k: u8) -> usize
+fn row_end(k: usize) -> usize
     requires { ⌜ k ≤ mostSections ⌝ }
     ensures { λ r. ⌜ r ≡ 2 ^ suc k ⌝ }
     ensures small { λ r. ⌜ (0 < r) × (r ≤ 512) ⌝ }
 {
-    2 << (k as usize)
+    2 << k
 }
 
 // The word moved up one bit, bits above k dropped.
-fn raised(word: u16, k: u8) -> u16
+fn raised(word: u16, k: usize) -> u16
     requires { ⌜ k ≤ mostSections ⌝ }
     ensures { λ r. ⌜ r ≡ raised k word ⌝ }
 {
@@ -53,7 +53,7 @@ pub fn step(
     next: &ByCentre,
     visits: &mut [u16],
     n: usize,
-    k: u8,
+    k: usize,
     longest: Centre,
 ) -> NewRow
     requires { ⌜ (n ≤ mostPicks) × (k ≤ mostSections) ⌝ }

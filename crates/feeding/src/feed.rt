@@ -2,9 +2,9 @@
 ghost use mathlib.Core.Path.{_≡_};
 ghost use Prim.Native.Nat.{_+_, _<_};
 ghost use Rattle.words.specs.Definitions.{mostPicks};
-ghost use Rattle.promises.specs.Holds.{draftOf};
+ghost use Rattle.promises.specs.State.{draftOf};
 ghost use Rattle.promises.specs.Promises.{FeedPromise, maskByte};
-ghost use Rattle.promises.specs.Lent.{fed};
+ghost use Rattle.promises.specs.Lent.{fedAs};
 use cells::ByCentre;
 use cells::ByPlace;
 use cells::Centre;
@@ -63,13 +63,13 @@ pub fn feed(
     gathered: &mut ByPlace,
     visits: &mut [u16],
     n: usize,
-    k: u8,
+    k: usize,
     longest: Centre,
     pick: u8,
 ) -> Step
     ensures { λ r. ⌜ FeedPromise
         (draftOf n k (longest .0) (now (letters .entry)) (now (radius .entry)) (now (heads .entry)) (now (lends .entry)) (now (next .entry)) (now (prev .entry)) (now (rows .entry)) (now (gathered .entry))) pick (now (visits .entry))
-        (fed (r .answer) (draftOf (r .n) k (r .longest .0) (now (letters .exit)) (now (radius .exit)) (now (heads .exit)) (now (lends .exit)) (now (next .exit)) (now (prev .exit)) (now (rows .exit)) (now (gathered .exit)))) (now (visits .exit)) ⌝ }
+        (fedAs (r .answer) (draftOf (r .n) k (r .longest .0) (now (letters .exit)) (now (radius .exit)) (now (heads .exit)) (now (lends .exit)) (now (next .exit)) (now (prev .exit)) (now (rows .exit)) (now (gathered .exit)))) (now (visits .exit)) ⌝ }
 {
     let number = feed_refusal(n, k, pick, visits.len());
     if 0 < number {

@@ -3,9 +3,9 @@ ghost use mathlib.Core.Path.{_≡_};
 ghost use lib.ListN.{set, replicate};
 ghost use Rattle.words.specs.Definitions.{mostPicks};
 ghost use Rattle.models.specs.Scanning.{places, centres};
-ghost use Rattle.promises.specs.Holds.{draftOf};
+ghost use Rattle.promises.specs.State.{draftOf};
 ghost use Rattle.promises.specs.Promises.{StartPromise};
-ghost use Rattle.promises.specs.Lent.{started};
+ghost use Rattle.promises.specs.Lent.{startedAs};
 use cells::ByCentre;
 use cells::ByPlace;
 use cells::Centre;
@@ -20,7 +20,7 @@ use refusals::start_refusal;
 pub struct Begin {
     pub answer: StartAnswer,
     pub n: usize,
-    pub k: u8,
+    pub k: usize,
     pub longest: Centre,
 }
 
@@ -63,13 +63,13 @@ pub fn start(
     rows: &mut ByPlace,
     gathered: &mut ByPlace,
     n: usize,
-    k: u8,
+    k: usize,
     longest: Centre,
     sections: u8,
 ) -> Begin
     ensures { λ r. ⌜ StartPromise
         (draftOf n k (longest .0) (now (letters .entry)) (now (radius .entry)) (now (heads .entry)) (now (lends .entry)) (now (next .entry)) (now (prev .entry)) (now (rows .entry)) (now (gathered .entry))) sections
-        (started (r .answer) (draftOf (r .n) (r .k) (r .longest .0) (now (letters .exit)) (now (radius .exit)) (now (heads .exit)) (now (lends .exit)) (now (next .exit)) (now (prev .exit)) (now (rows .exit)) (now (gathered .exit)))) ⌝ }
+        (startedAs (r .answer) (draftOf (r .n) (r .k) (r .longest .0) (now (letters .exit)) (now (radius .exit)) (now (heads .exit)) (now (lends .exit)) (now (next .exit)) (now (prev .exit)) (now (rows .exit)) (now (gathered .exit)))) ⌝ }
 {
     let number = start_refusal(sections);
     if 0 < number {
@@ -86,7 +86,7 @@ pub fn start(
     Begin {
         answer: StartAnswer::Begun,
         n: 0,
-        k: sections,
+        k: sections as usize,
         longest: Centre(1),
     }
 }

@@ -1,6 +1,6 @@
 // Section 3, append.
 ghost use mathlib.Core.Path.{_≡_};
-ghost use Prim.Native.Nat.{_+_, _*_, _≤_, _<_};
+ghost use Prim.Native.Nat.{_+_, _*_, _<_};
 ghost use Rattle.words.specs.Definitions.{mostPicks};
 ghost use Rattle.models.specs.Answers.{AppendsLetter};
 ghost use Rattle.models.specs.Iterator.{iterator, lostPlace};

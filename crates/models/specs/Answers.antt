@@ -1,5 +1,6 @@
 -- The promises of the iterator's functions on lent arrays: each a meaning, for every word that the arrays hold, and what is computed on any contents.
 use mathlib.Core.Path.{_≡_, _∙_}
+use mathlib.Core.Bool.{cond}
 use mathlib.Core.List.{List}
 use mathlib.Core.Option.{Option, some, none}
 use Prim.Native.Nat.{ℕ, suc, _+_, _*_, _-_, _≤_, _<_}
@@ -8,7 +9,7 @@ use Rattle.words.specs.Definitions.{mostPicks, centre, Ending}
 use Rattle.words.specs.Computed.{longestCentre, nextCentre, radiusAt}
 use Rattle.words.specs.Prefixes.{Agree}
 use Rattle.models.specs.Centres.{EndingAt, NextEndingAt, ending-at, at-ending, next-centre-at}
-use Rattle.models.specs.Iterator.{Iterator, choose, radiusOf, longestOf, isEnding, appended}
+use Rattle.models.specs.Iterator.{Iterator, radiusOf, longestOf, isEnding, appended}
 use Rattle.models.specs.Stores.{at}
 use Rattle.models.specs.Scanning.{Radii}
 use Rattle.models.specs.Iterating.{Iterates, in-range, keeps, first, longest-right, radius-right, ending-true, ending-false}
@@ -37,7 +38,7 @@ endings h = record {
 }
 
 abbrev pub nextOf : List ℕ → List ℕ → ℕ → ℕ → ℕ → Option ℕ
-nextOf R N n s c = choose (isEnding R n s c) (some (at N c)) none
+nextOf R N n s c = cond (isEnding R n s c) (some (at N c)) none
 
 -- "Centre of the next shorter ending after one given by its centre (any ending, leading or not; the one-pick ending leads to the empty one)"
 pub record NextIs (R N : List ℕ) (n s c : ℕ) (r : Option ℕ) : Type 0 where

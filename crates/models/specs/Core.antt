@@ -65,6 +65,11 @@ append K n pick a vs =
     let t : Iterator = appended (a .iterator) n pick in
     joined t (stepped K (suc n) (t .longest) (a .rows) (t .next) (a .gathered) vs)
 
+-- nothing of the visit list is stored in the arrays
+pub append-arrays : (K n pick : ℕ) (a : Arrays) (vs : List ℕ) → append K n pick a vs .arrays ≡ append K n pick a [] .arrays
+unfolding append
+append-arrays K n pick a vs = refl
+
 -- the code's way to it: m is n + 1
 pub append-as : (K n m pick : ℕ) (a : Arrays) (vs : List ℕ) (t : Iterator) (f : Stepped) → m ≡ n + 1 → t ≡ appended (a .iterator) n pick
     → f ≡ stepped K m (t .longest) (a .rows) (t .next) (a .gathered) vs → joined t f ≡ append K n pick a vs

@@ -1,14 +1,10 @@
 -- What the iterator computes: the paper's Section 3 on lists, total on any contents.
 -- An array is the list of its numbers: outside of it 0 is read and nothing is stored. Centres are in half picks.
-use mathlib.Core.Bool.{Bool, true, false}
+use mathlib.Core.Bool.{Bool, false, cond}
 use mathlib.Core.List.{List}
 use Prim.Native.Nat.{ℕ, zero, suc, _+_, _-_, _*_, _/_, min, max}
 use lib.ListN.{getD, set}
 use lib.Dec.{ltb, leb, eqb}
-
-abbrev pub choose : {A : Type 0} → Bool → A → A → A
-choose true a b = a
-choose false a b = b
 
 -- x brought into 1 to top
 abbrev pub within : ℕ → ℕ → ℕ
@@ -45,7 +41,7 @@ reflectedRadius R n s c = min (getD R (reflection c s) 0) (n - c / 2)
 
 -- the paper's rad
 abbrev pub radiusOf : List ℕ → ℕ → ℕ → ℕ → ℕ
-radiusOf R n s c = choose (leb c s) (getD R c 0) (reflectedRadius R n s c)
+radiusOf R n s c = cond (leb c s) (getD R c 0) (reflectedRadius R n s c)
 
 -- the paper's maxPal; a stored number that is no centre is brought into range
 abbrev pub longestOf : ℕ → ℕ → ℕ
@@ -57,7 +53,7 @@ lastCentre n = 2 * n
 
 -- does an ending that is not empty have the centre c?
 abbrev pub isEnding : List ℕ → ℕ → ℕ → ℕ → Bool
-isEnding R n s c = choose (leb s c) (choose (leb c (lastCentre n)) (eqb (radiusOf R n s c) (n - c / 2)) false) false
+isEnding R n s c = cond (leb s c) (cond (leb c (lastCentre n)) (eqb (radiusOf R n s c) (n - c / 2)) false) false
 
 -- Append
 
@@ -67,7 +63,7 @@ start c r = (c + 1) / 2 - (r + 1)
 
 -- line 4: the stretch closes the text, and the letter before it is the new one
 abbrev pub extends : List ℕ → ℕ → ℕ → ℕ → ℕ → Bool
-extends letters n c r pick = choose (eqb (c / 2 + r) n) (choose (ltb 0 (start c r)) (eqb (getD letters (start c r - 1) 0) pick) false) false
+extends letters n c r pick = cond (eqb (c / 2 + r) n) (cond (ltb 0 (start c r)) (eqb (getD letters (start c r - 1) 0) pick) false) false
 
 pub record Scanned : Type 0 where
   pub longest : ℕ
@@ -84,7 +80,7 @@ module _ (letters : List ℕ) (n pick from : ℕ) where
   scan zero c R H L = scanned c (set R c 0) H L
   scan (suc k) c R H L =
       let r : ℕ = reflectedRadius R n from c in
-      choose (extends letters n c r pick)
+      cond (extends letters n c r pick)
       (scanned c (set R c (r + 1)) H L)
       (scan k (c + 1) (set R c r) (set H (start c r) c) (set L c (getD H (start c r) 0)))
 
@@ -113,7 +109,7 @@ module _ (L : List ℕ) (s : ℕ) where
   unlinks zero x l = l
   unlinks (suc k) zero l = l
   unlinks (suc k) (suc x) l =
-      choose (ltb (getD L (suc x) 0) (suc x))
+      cond (ltb (getD L (suc x) 0) (suc x))
       (unlinks k (getD L (suc x) 0) (unlink l (lostCentre (suc x) s)))
       (unlink l (lostCentre (suc x) s))
 

@@ -1,6 +1,6 @@
 -- How code meets the split: the turns of the search for a start, and the ways of a step from section to section.
 use mathlib.Core.Path.{_≡_, refl, sym, ap, subst, _∙_}
-use mathlib.Core.Bool.{Bool, true, false}
+use mathlib.Core.Bool.{Bool, true, false, cond, true≢false, false≢true}
 use mathlib.Core.List.{List, [], _∷_, _++_}
 use mathlib.Core.Option.{Option, some, none}
 use Prim.Native.Nat.{ℕ, zero, suc, _+_, _-_, _/_, _≤_, _<_}
@@ -9,7 +9,7 @@ use lib.Dec.{leb, eqb}
 use lib.ListN.{length, set, length-append}
 use lib.Seq.{sets}
 use Rattle.words.specs.Definitions.{bit}
-use Rattle.models.specs.Iterator.{choose, radiusOf}
+use Rattle.models.specs.Iterator.{radiusOf}
 use Rattle.models.specs.Stores.{at, sets-append}
 use Rattle.models.specs.Splitting.{joinLast, joinRest, startsAt, firstStart, splitBy}
 
@@ -47,7 +47,7 @@ module _ (rows R : List ℕ) (n s k i : ℕ) where
   first-below zero j x e = let z : _≡_ {A = ℕ} 0 1 = cc in absurd (omega arith)
   first-below (suc m) j x e = go (startsAt rows R n s k i j) e (first-below m (j + 1) x)
     where
-      go : (b : Bool) → choose b (some j) (firstStart rows R n s k i m (j + 1)) ≡ some x
+      go : (b : Bool) → cond b (some j) (firstStart rows R n s k i m (j + 1)) ≡ some x
           → (firstStart rows R n s k i m (j + 1) ≡ some x → x < j + 1 + m) → x < j + suc m
       go true q f = let z : x ≡ j = cc in omega arith
       go false q f = omega (arith, f q)
@@ -70,7 +70,7 @@ module _ (rows R : List ℕ) (n s : ℕ) where
   unfolding splitBy
   split-length zero i ends e = go (eqb i 0) e
     where
-      go : (b : Bool) → choose b (some []) none ≡ some ends → length ends ≡ 0
+      go : (b : Bool) → cond b (some []) none ≡ some ends → length ends ≡ 0
       go true q = let z : ends ≡ [] = cc in rw z
       go false q = let z : _≡_ {A = ℕ} 0 1 = cc in absurd (omega arith)
   split-length (suc k) i ends e = go (firstStart rows R n s k i i 0) e (split-length k)
@@ -95,7 +95,7 @@ pub record Stores (o : Option (List ℕ)) (before : List ℕ) (b : Bool) (after 
   pub tells : b ≡ isFound o
   pub list : after ≡ stored before o
 
-stores-no-section : (b : Bool) (before : List ℕ) → Stores (choose b (some []) none) before b before
+stores-no-section : (b : Bool) (before : List ℕ) → Stores (cond b (some []) none) before b before
 stores-no-section true before = record { tells = refl; list = refl }
 stores-no-section false before = record { tells = refl; list = refl }
 
@@ -103,7 +103,7 @@ stores-no-section false before = record { tells = refl; list = refl }
 stores-last : (k i x : ℕ) (o : Option (List ℕ)) (before between after : List ℕ) → ((es : List ℕ) → o ≡ some es → length es ≡ k)
     → Stores o before true between → x ≡ i → after ≡ set between k x → Stores (joinLast i o) before true after
 unfolding joinLast
-stores-last k i x none before between after f h q e = absurd (let z : _≡_ {A = ℕ} 1 0 = ap (λ b. elim b [ true ↦ 1 | false ↦ 0 ]) (h .tells) in omega arith)
+stores-last k i x none before between after f h q e = absurd (true≢false (h .tells))
 stores-last k i x (some es) before between after f h q e =
     let c : 0 + length es ≡ k = omega (arith, f es refl) in
     record { tells = refl; list = rw (e, h .list, q) (sym (sets-append before 0 es (i ∷ []) ∙ ap (λ y. set (sets before 0 es) y i) c)) }
@@ -111,7 +111,7 @@ stores-last k i x (some es) before between after f h q e =
 stores-lacking : (i : ℕ) (o : Option (List ℕ)) (before after : List ℕ) → Stores o before false after → Stores (joinLast i o) before false after
 unfolding joinLast
 stores-lacking i none before after h = record { tells = refl; list = h .list }
-stores-lacking i (some es) before after h = absurd (let z : _≡_ {A = ℕ} 0 1 = ap (λ b. elim b [ true ↦ 1 | false ↦ 0 ]) (h .tells) in omega arith)
+stores-lacking i (some es) before after h = absurd (false≢true (h .tells))
 
 module _ (rows R : List ℕ) (n s i : ℕ) (before : List ℕ) where
   -- no section is left

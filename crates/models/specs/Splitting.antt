@@ -1,6 +1,6 @@
 -- The split named, from the stored row words and radii: what is computed on any contents, and its law.
 use mathlib.Core.Path.{_≡_, refl, ap, _∙_}
-use mathlib.Core.Bool.{Bool, true, false}
+use mathlib.Core.Bool.{Bool, true, false, cond}
 use mathlib.Core.List.{List, [], _∷_, _++_}
 use mathlib.Core.Option.{Option, some, none}
 use Prim.Native.Nat.{ℕ, zero, suc, _+_, _-_, _/_, _≤_, _<_}
@@ -14,7 +14,7 @@ use Rattle.words.specs.Computed.{cutLast, splitOf, splits, rowWord}
 use Rattle.words.specs.Laws.{row-at}
 use Rattle.models.specs.Centres.{ending-at, at-ending}
 use Rattle.models.specs.Reflection.{narrower}
-use Rattle.models.specs.Iterator.{choose, radiusOf}
+use Rattle.models.specs.Iterator.{radiusOf}
 use Rattle.models.specs.Stores.{at}
 use Rattle.models.specs.Scanning.{Radii}
 use Rattle.models.specs.Iterating.{widest-right}
@@ -34,17 +34,17 @@ module _ (rows R : List ℕ) (n s : ℕ) where
   -- does the last of k + 1 sections of prefix i start at place j? Prefix j splits into k, by its row word, and picks j + 1 to i are
   -- mirrored, by the radius at their centre
   abbrev pub startsAt : (k i j : ℕ) → Bool
-  startsAt k i j = choose (eqb (bit (at rows j) k) 1) (leb ((i - j) / 2) (radiusOf R n s (i + j + 1))) false
+  startsAt k i j = cond (eqb (bit (at rows j) k) 1) (leb ((i - j) / 2) (radiusOf R n s (i + j + 1))) false
 
   -- the first such place from j on, among m places
   unfoldable pub firstStart : (k i m j : ℕ) → Option ℕ
   firstStart k i zero j = none
-  firstStart k i (suc m) j = choose (startsAt k i j) (some j) (firstStart k i m (j + 1))
+  firstStart k i (suc m) j = cond (startsAt k i j) (some j) (firstStart k i m (j + 1))
 
   -- the ends of a split of prefix i into k sections, from the last section back; the start of each is tried from place 0 upward
   unfoldable pub splitBy : (k i : ℕ) → Option (List ℕ)
   unfolding firstStart joinRest
-  splitBy zero i = choose (eqb i 0) (some []) none
+  splitBy zero i = cond (eqb i 0) (some []) none
   splitBy (suc k) i = joinRest (splitBy k) i (firstStart k i i 0)
 
 not-leb : (a b : ℕ) → (a ≤ b → ⊥) → leb a b ≡ false

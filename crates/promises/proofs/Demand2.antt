@@ -1,13 +1,12 @@
 -- Demand 2: a yes exactly when the prefix is k non-empty palindromes joined.
 use mathlib.Core.Path.{_≡_, subst, _∙_}
 use mathlib.Core.List.{List, [], _∷_, _++_}
-use Prim.Native.Nat.{ℕ, suc, _+_, _-_, _≤_}
+use Prim.Native.Nat.{ℕ, _+_, _-_, _≤_}
 use native.Mathlib.Omega.{arith}
 use lib.ListN.{length, length-append}
 use borrow.Author.Tests.{le-leb}
 use Rattle.words.specs.Definitions.{mostPicks, mostSections, word}
 use Rattle.words.specs.Computed.{mask as maskOf}
-use Rattle.words.specs.Laws.{row-bit, row-past, mask-bit}
 use Rattle.cells.specs.declared.Place.{Place}
 use Rattle.promises.specs.declared.Draft.{Draft}
 use Rattle.promises.specs.declared.MaskAnswer.{MaskAnswer}
@@ -19,16 +18,11 @@ use Rattle.promises.specs.Taking.{passes7}
 use Rattle.promises.specs.Holds.{Holds}
 use Rattle.promises.specs.Promises.{MaskPromise}
 use Rattle.promises.specs.Runs.{started}
-use Rattle.promises.specs.Demands.{rowOf, Yes, Demand2Holds}
+use Rattle.promises.specs.Demands.{rowOf, Demand2Holds}
+use Rattle.promises.specs.Says.{Yes}
 use Rattle.promises.proofs.Keeping.{said-is, fits, whole, holds-at-feed, feed-met}
+use Rattle.promises.proofs.Answering.{mask-yes}
 use Rattle.promises.proofs.Feeding.{fed-said}
-
--- the mask's bits
-mask-yes : (K : ℕ) (u : List ℕ) (i : ℕ) → Yes K u i (maskOf K (word u) i)
-mask-yes K u i = record {
-  exactly = λ k a b. let z : suc (k - 1) ≡ k = omega arith in rw (mask-bit K (word u) i (k - 1), z) (row-bit K (word u) i k b);
-  past = λ k a. let z : suc (k - 1) ≡ k = omega arith in rw (mask-bit K (word u) i (k - 1), z) (row-past K (word u) i k a);
-}
 
 -- of the row with the pick
 more-yes : (K : ℕ) (u : List ℕ) (pick : ℕ) → Yes K (u ++ pick ∷ []) (length u + 1) (maskOf K (word (u ++ pick ∷ [])) (length (u ++ pick ∷ [])))

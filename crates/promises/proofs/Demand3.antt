@@ -22,12 +22,13 @@ use Rattle.promises.specs.declared.Started.{Started}
 use Rattle.promises.specs.declared.Fed.{Fed}
 use Rattle.promises.specs.declared.CentreAnswer.{CentreAnswer}
 use Rattle.promises.specs.declared.SplitAnswer.{SplitAnswer}
-use Rattle.promises.specs.Answers.{Said, gave, refused, reply, startSays, feedSays, centreSays, splitSays}
+use Rattle.promises.specs.Answers.{Said, gave, refused, reply, startSays, feedSays, centreSays, splitSays, filled}
 use Rattle.promises.specs.Refusals.{startRefusal, splitRefusal, longestRefusal}
 use Rattle.promises.specs.Book.{Book, startTaken}
-use Rattle.promises.specs.Replies.{filled, orNoSplit, startReply, splitReply, longestReply, replyTo}
+use Rattle.promises.specs.Replies.{orNoSplit, startReply, splitReply, longestReply, replyTo}
 use Rattle.promises.specs.Taking.{Case, taken, left, true-false, start-cases, passes7, unless-zero, unless-not}
-use Rattle.promises.specs.Holds.{Holds, arraysOf}
+use Rattle.promises.specs.State.{arraysOf}
+use Rattle.promises.specs.Holds.{Holds}
 use Rattle.promises.specs.Promises.{StartPromise, FeedPromise, SplitPromise, LongestPromise}
 use Rattle.promises.specs.Demands.{Accepted, SplitRight, MovedRight, VisitsRight, Demand3Holds}
 use Rattle.promises.proofs.Keeping.{gave-accepted, said-is, list-is, fits, whole, start-met, holds-at-feed, feed-met}

@@ -1,20 +1,19 @@
 -- What an accepted feed says, and what its list holds.
-use mathlib.Core.Path.{_≡_, refl, subst, _∙_}
-use mathlib.Core.Bool.{Bool, true, false}
+use mathlib.Core.Path.{_≡_, subst, _∙_}
+use mathlib.Core.Bool.{true, cond, _&&_, and-eq-true-iff}
 use mathlib.Core.Logic.{_↔_}
 use mathlib.Core.List.{List, [], _∷_, _++_}
 use Prim.Native.Nat.{ℕ, _<_}
-use lib.Dec.{leb}
+use lib.Dec.{leb, ltb}
 use lib.ListN.{length}
 use borrow.Author.Tests.{ltb-true}
 use Rattle.words.specs.Definitions.{mostPicks, mostVisits, firstLetter, lastLetter}
 use Rattle.promises.specs.declared.Draft.{Draft}
 use Rattle.promises.specs.declared.Fed.{Fed}
-use Rattle.promises.specs.Answers.{gave, reply, feedSays}
-use Rattle.promises.specs.Refusals.{both, between, feedRefusal}
-use Rattle.promises.specs.Record.{choose}
+use Rattle.promises.specs.Answers.{gave, reply, feedSays, filled}
+use Rattle.promises.specs.Refusals.{between, feedRefusal}
 use Rattle.promises.specs.Book.{Book, book, feedTaken, write}
-use Rattle.promises.specs.Replies.{unless, filled, feedReply, fedMask, fedVisits, replyTo}
+use Rattle.promises.specs.Replies.{unless, feedReply, fedMask, fedVisits, replyTo}
 use Rattle.promises.specs.Taking.{Case, taken, left, true-false, unless-zero, unless-not}
 use Rattle.promises.specs.Holds.{Holds}
 use Rattle.promises.specs.Promises.{FeedPromise}
@@ -57,12 +56,9 @@ module _ {d : Draft} {b : Book} {pick : ℕ} {before : List ℕ} {r : Fed} {afte
   unfolding write
   fed-holds ok =
       let t : feedTaken b pick (length before) ≡ true = fed-accepted .0 ok in
-      subst (λ x. Holds (r .state) (choose x (book (b .K) (b .row ++ pick ∷ [])) b)) t (p .meaning b h .holds)
+      subst (λ x. Holds (r .state) (cond x (book (b .K) (b .row ++ pick ∷ [])) b)) t (p .meaning b h .holds)
 
   pub fed-room : Accepted (feedSays (r .answer)) → length (b .row) < mostPicks
-  fed-room ok = ltb-true _ _ (room (between firstLetter lastLetter pick) (leb mostVisits (length before)) _ (fed-accepted .0 ok))
-    where
-      room : (x y z : Bool) → both x (both y z) ≡ true → z ≡ true
-      room true true z e = e
-      room true false z e = absurd (true-false e refl)
-      room false y z e = absurd (true-false e refl)
+  fed-room ok =
+      let t = and-eq-true-iff (between firstLetter lastLetter pick) (leb mostVisits (length before) && ltb (length (b .row)) mostPicks) .0 (fed-accepted .0 ok) in
+      ltb-true _ _ (and-eq-true-iff (leb mostVisits (length before)) (ltb (length (b .row)) mostPicks) .0 (t .1) .1)

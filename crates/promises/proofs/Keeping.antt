@@ -1,5 +1,6 @@
 -- One call, and then a whole run: the state holds what stands in the book, and each reply is the one that the book gives.
 use mathlib.Core.Path.{_≡_, sym, ap, subst}
+use mathlib.Core.Bool.{true, cond}
 use mathlib.Core.List.{List, [], _∷_, _++_}
 use Prim.Native.Nat.{ℕ, _≤_}
 use native.Mathlib.Omega.{arith}
@@ -11,11 +12,11 @@ use Rattle.promises.specs.declared.Started.{Started}
 use Rattle.promises.specs.declared.Fed.{Fed}
 use Rattle.promises.specs.Answers.{Said, gave, reply, startSays}
 use Rattle.promises.specs.Refusals.{startRefusal, feedRefusal}
-use Rattle.promises.specs.Record.{choose}
 use Rattle.promises.specs.Book.{Book, book, blank, startTaken, feedTaken, write, writeAll, bookOf, start}
 use Rattle.promises.specs.Replies.{replyTo, replies}
 use Rattle.promises.specs.Taking.{Case, taken, left, true-false, start-cases, feed-cases}
 use Rattle.promises.specs.Holds.{Holds}
+use Rattle.promises.specs.Meeting.{start-holds}
 use Rattle.promises.specs.Promises.{StartPromise, FeedPromise}
 use Rattle.promises.specs.Runs.{Made, started, fed, splitted, longestAsked, maskAsked, radiusAsked, nextAsked, folded, callOf, calls, replyOf, Meets, leaves, Run, last}
 use Rattle.promises.specs.Demands.{Opened, Accepted, FeedAmong}
@@ -45,8 +46,8 @@ module _ {d : Draft} {b : Book} (h : Holds d b) where
   unfolding Meets leaves callOf write
   keep (started K r) p = go (start-cases K)
     where
-      go : Case (startTaken K) (startRefusal K) → Holds (r .state) (choose (startTaken K) (book K []) b)
-      go (taken t z) = rw t (p .begins z)
+      go : Case (startTaken K) (startRefusal K) → Holds (r .state) (cond (startTaken K) (book K []) b)
+      go (taken t z) = rw t (start-holds p z)
       go (left t z) = rw (t, p .refuses z) h
   keep (fed pick before r after) p = p .meaning b h .holds
   keep (splitted i k before r after) p = h
@@ -86,18 +87,25 @@ upto d (x ∷ xs) ys m t = let r = upto (leaves d x) xs ys m (t .1) in ((t .0, r
 -- A run that opens with an accepted start
 
 module _ {d : Draft} {K : ℕ} {r : Started} {ms : List Made} (o : Opened d K r ms) where
-  promise : StartPromise d K r
+  pub promise : StartPromise d K r
   unfolding Run Meets
   promise = o .run .0
+
+  -- it is taken, and accepted
+  pub opens : (startTaken K ≡ true) × (startRefusal K ≡ 0)
+  opens = go (start-cases K)
+    where
+      t : startTaken K ≡ true
+      t = simp (le-leb 1 K (o .least), le-leb K mostSections (o .most))
+
+      go : Case (startTaken K) (startRefusal K) → (startTaken K ≡ true) × (startRefusal K ≡ 0)
+      go (taken e z) = (e, z)
+      go (left e z) = absurd (true-false t e)
 
   -- whatever was stored, and whatever stood in the book
   pub opened : (b : Book) → Holds (r .state) (write b (start K))
   unfolding write
-  opened b = go (start-cases K)
-    where
-      go : Case (startTaken K) (startRefusal K) → Holds (r .state) (choose (startTaken K) (book K []) b)
-      go (taken t z) = rw t (promise .begins z)
-      go (left t z) = absurd (true-false (simp (le-leb 1 K (o .least), le-leb K mostSections (o .most))) t)
+  opened b = rw (opens .0) (start-holds promise (opens .1))
 
   -- the book and the state after the last call
   pub whole : Holds (last d (started K r ∷ ms)) (bookOf (calls (started K r ∷ ms)))
@@ -108,7 +116,7 @@ module _ {d : Draft} {K : ℕ} {r : Started} {ms : List Made} (o : Opened d K r 
   unfolding Meets
   start-met xs ys {k} {x} e = upto d xs ys (started k x) (rw e at (o .run)) .1
 
--- and before each feed among them
+-- and before each call among them
 
 module _ {d : Draft} {K : ℕ} {r : Started} {ms : List Made} (o : Opened d K r ms) where
   opened-at : (m : Made) (xs : List Made) → m ≡ started K r → Run d (m ∷ xs) → Holds (last d (m ∷ xs)) (bookOf (calls (m ∷ xs)))
@@ -116,18 +124,22 @@ module _ {d : Draft} {K : ℕ} {r : Started} {ms : List Made} (o : Opened d K r 
       subst (λ y. Run d (y ∷ xs) → Holds (last d (y ∷ xs)) (bookOf (calls (y ∷ xs)))) (sym e)
       (λ u. whole (record { least = o .least; most = o .most; run = u })) t
 
+  replied-first : (m : Made) → m ≡ started K r → replyOf m ≡ replyTo blank (callOf m)
+  unfolding replyOf callOf replyTo
+  replied-first m e = rw e (promise o .says)
+
+  pub replied-at : (xs ys : List Made) (m : Made) → started K r ∷ ms ≡ xs ++ m ∷ ys → replyOf m ≡ replyTo (bookOf (calls xs)) (callOf m)
+  unfolding writeAll
+  replied-at [] ys m e = let z : m ≡ started K r = cc in replied-first m z
+  replied-at (x ∷ xs) ys m e =
+      let z : x ≡ started K r = cc in
+      let t = upto d (x ∷ xs) ys m (rw e at (o .run)) in
+      replied (opened-at x xs z (t .0)) m (t .1)
+
   holds-before : (xs ys : List Made) (m : Made) → (m ≡ started K r → ⊥) → started K r ∷ ms ≡ xs ++ m ∷ ys → Run d xs
       → Holds (last d xs) (bookOf (calls xs))
-  holds-before [] ys m f e t = absurd (f (sym (ap (λ l. first l) e)))
-    where
-      first : List Made → Made
-      first [] = m
-      first (x ∷ l) = x
-  holds-before (x ∷ xs) ys m f e t = opened-at x xs (sym (ap (λ l. first l) e)) t
-    where
-      first : List Made → Made
-      first [] = m
-      first (x ∷ l) = x
+  holds-before [] ys m f e t = let z : m ≡ started K r = cc in absurd (f z)
+  holds-before (x ∷ xs) ys m f e t = let z : x ≡ started K r = cc in opened-at x xs z t
 
   fed-not : {pick : ℕ} {before : List ℕ} {x : Fed} {after : List ℕ} → fed pick before x after ≡ started K r → ⊥
   fed-not {pick} {before} {x} {after} e = let z : _≡_ {A = ℕ} 0 1 = cc in omega arith

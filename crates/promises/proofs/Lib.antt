@@ -1,6 +1,10 @@
 pub mod Keeping
+pub mod Listing
+pub mod Answering
 pub mod Demand1
 pub mod Feeding
 pub mod Demand2
 pub mod Demand3
 pub mod Transcript
+pub mod Stored
+pub mod Drafts

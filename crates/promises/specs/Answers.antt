@@ -1,6 +1,7 @@
 -- What an answer says: the values it gives, or the number under which it refuses.
-use mathlib.Core.List.{List, [], _∷_}
+use mathlib.Core.List.{List, [], _∷_, _++_}
 use Prim.Native.Nat.{ℕ}
+use lib.ListN.{length, drop}
 use Rattle.promises.specs.declared.StartAnswer.{StartAnswer}
 use Rattle.promises.specs.declared.StartAnswer.the-variants.{Begun, Refused as StartRefused}
 use Rattle.promises.specs.declared.FeedAnswer.{FeedAnswer}
@@ -29,6 +30,10 @@ pub record Reply : Type 0 where
 
 abbrev pub reply : Said → List ℕ → Reply
 reply said list = record { said = said; list = list }
+
+-- "On success, entries past those named keep theirs.": the list with these entries in front
+abbrev pub filled : (front list : List ℕ) → List ℕ
+filled front list = front ++ drop (length front) list
 
 -- The paper's number and values for each case of each enum
 

@@ -1,12 +1,11 @@
 -- The calls of a run, and the plain book that is kept beside it, "from the calls' arguments alone, the state not among them".
-use mathlib.Core.Bool.{Bool}
+use mathlib.Core.Bool.{Bool, cond, _&&_}
 use mathlib.Core.List.{List, [], _∷_, _++_}
 use Prim.Native.Nat.{ℕ}
 use lib.Dec.{leb, ltb}
 use lib.ListN.{length}
 use Rattle.words.specs.Definitions.{mostPicks, mostSections, mostVisits, firstLetter, lastLetter}
-use Rattle.promises.specs.Refusals.{both, between}
-use Rattle.promises.specs.Record.{choose}
+use Rattle.promises.specs.Refusals.{between}
 
 -- A call with its arguments, the state not among them; a list is lent as it stands. Places are in whole picks, centres in half picks.
 -- The last four calls only read the state.
@@ -45,12 +44,16 @@ startTaken K = between 1 mostSections K
 
 -- "when the pick is A to Z, the visit list has at least 19 entries and the row has under 2,048 letters"
 abbrev pub feedTaken : Book → ℕ → ℕ → Bool
-feedTaken b pick entries = both (between firstLetter lastLetter pick) (both (leb mostVisits entries) (ltb (length (b .row)) mostPicks))
+feedTaken b pick entries = between firstLetter lastLetter pick && (leb mostVisits entries && ltb (length (b .row)) mostPicks)
+
+-- "a feed's prefix is the row with its pick"
+abbrev pub fedRow : Book → (pick : ℕ) → List ℕ
+fedRow b pick = b .row ++ pick ∷ []
 
 -- "writes K and clears the row"; "adds its pick at the end"; "Every other call leaves the book alone."
 unfoldable pub write : Book → Call → Book
-write b (start K) = choose (startTaken K) (book K []) b
-write b (feed pick visits) = choose (feedTaken b pick (length visits)) (book (b .K) (b .row ++ pick ∷ [])) b
+write b (start K) = cond (startTaken K) (book K []) b
+write b (feed pick visits) = cond (feedTaken b pick (length visits)) (book (b .K) (fedRow b pick)) b
 write b (split i k ends) = b
 write b longest = b
 write b (mask i) = b

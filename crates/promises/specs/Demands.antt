@@ -2,10 +2,12 @@
 use mathlib.Core.Path.{_≡_}
 use mathlib.Core.Bool.{true}
 use mathlib.Core.Logic.{_↔_, _≢_}
-use mathlib.Core.List.{List, [], _∷_, _++_, map}
-use Prim.Native.Nat.{ℕ, _+_, _-_, _*_, _^_, _≤_, _<_}
+use mathlib.Core.List.{List, [], _∷_, _++_, map, List·Memᴰ}
+use Prim.Native.Nat.{ℕ, _+_, _-_, _*_, _^_, _≤_}
 use lib.ListN.{length, take, drop}
-use Rattle.words.specs.Definitions.{mostSections, word, prefix, Joined, LongestEnding, Visits, Split, Named, bit}
+use Rattle.words.specs.Definitions.{mostSections, word, LongestEnding, Visits, Split, Named}
+use Rattle.words.specs.Computed.{rowWord, gatheredWord}
+use Rattle.models.specs.Stores.{at}
 use Rattle.cells.specs.declared.Place.{Place}
 use Rattle.promises.specs.declared.Draft.{Draft}
 use Rattle.promises.specs.declared.Started.{Started}
@@ -13,10 +15,15 @@ use Rattle.promises.specs.declared.Fed.{Fed}
 use Rattle.promises.specs.declared.MaskAnswer.{MaskAnswer}
 use Rattle.promises.specs.declared.CentreAnswer.{CentreAnswer}
 use Rattle.promises.specs.declared.SplitAnswer.{SplitAnswer}
-use Rattle.promises.specs.Answers.{Said, gave, refused, startSays, feedSays, maskSays, centreSays, splitSays}
-use Rattle.promises.specs.Book.{blank, lent, startTaken, feedTaken, bookOf}
-use Rattle.promises.specs.Promises.{MaskPromise, SplitPromise, LongestPromise}
-use Rattle.promises.specs.Replies.{refusalOf, replies}
+use Rattle.promises.specs.declared.LiftAnswer.{LiftAnswer}
+use Rattle.promises.specs.Answers.{Said, gave, refused, Reply, startSays, feedSays, maskSays, centreSays, splitSays, liftSays}
+use Rattle.promises.specs.Lifts.{lift}
+use Rattle.promises.specs.Book.{Book, Call, start, feed, split, longest, mask, radius, next, fold, blank, lent, startTaken, feedTaken, bookOf}
+use Rattle.promises.specs.Listed.{First, NoneMet, recordLonger, noSplit, noEnding, listed, sought, lines, showLines, liftLines}
+use Rattle.promises.specs.Says.{Yes, Says, PartOf}
+use Rattle.promises.specs.State.{stateOfBook}
+use Rattle.promises.specs.Promises.{MaskPromise, SplitPromise, LongestPromise, ShowPromise, ShowNumberPromise, LiftPromise}
+use Rattle.promises.specs.Replies.{replies}
 use Rattle.promises.specs.Runs.{Made, started, fed, callOf, calls, replyOf, Meets, leaves, Run, last}
 
 -- A run that opens with an accepted start on the stored state d
@@ -41,20 +48,69 @@ pub record FeedAmong (ms xs : List Made) (pick : ℕ) (before : List ℕ) (r : F
   pub rest : List Made
   pub is : ms ≡ xs ++ fed pick before r after ∷ rest
 
--- Demand 1, for one call on any state whatever
+-- Demand 1
 
+-- the numbers of the lines that hang on the letters: 9 of a split, 10 of the next shorter ending, 9 and 5 of a record
+abbrev pub soughtNumbers : Call → List ℕ
+soughtNumbers call = map (λ l. l .number) (sought [] call)
+
+-- for one call, on any state whatever
 pub record Demand1 (d : Draft) (m : Made) : Type 0 where
-  -- "A call that meets a line of document 01's two refusal lists gets that line's number", by the tests that every state has
-  pub refuses : refusalOf (d .n) (d .k) (callOf m) ≢ 0 → replyOf m .said ≡ refused (refusalOf (d .n) (d .k) (callOf m))
+  -- of the lines that need no letters, 1 to 4, 7 and 8, the first that the call meets gives the number: "there 1 to 4 and 8 still hold"
+  pub refuses : (number : ℕ) → First (listed (d .n) (d .k) (callOf m)) number → replyOf m .said ≡ refused number
+  -- "Each number is given only under its line": a call that meets none of these can be refused only by what is found
+  pub otherwise : NoneMet (listed (d .n) (d .k) (callOf m)) → (number : ℕ) → replyOf m .said ≡ refused number
+      → List·Memᴰ number (soughtNumbers (callOf m))
   -- "A refusal returns its number only; state and lent buffers keep every byte", whatever the number
   pub keeps : (number : ℕ) → replyOf m .said ≡ refused number → (replyOf m .list ≡ lent (callOf m)) × (leaves d m ≡ d)
 
--- Demand 2
+-- the lines that need no letters are not met
+abbrev pub NoneListed : Book → Call → Type 0
+NoneListed b call = NoneMet (listed (length (b .row)) (b .K) call)
 
--- "the answer is yes exactly when the prefix is k non-empty palindromes joined": u are the picks, i the prefix; bit k - 1 is for k
-pub record Yes (K : ℕ) (u : List ℕ) (i m : ℕ) : Type 0 where
-  pub exactly : (k : ℕ) → 1 ≤ k → k ≤ K → (bit m (k - 1) ≡ 1) ↔ Joined k (prefix (word u) i)
-  pub past : (k : ℕ) → K < k → bit m (k - 1) ≡ 0
+-- 9, 10 and 5, each by itself: exactly where no line before it is met, and it is
+unfoldable pub Late : Book → Call → Reply → Type 0
+unfolding listed
+Late b (start k) r = Unit
+Late b (feed pick visits) r = Unit
+Late b (split i k ends) r = (r .said ≡ refused 9) ↔ (NoneListed b (split i k ends) × noSplit (b .row) i k .Met)
+Late b longest r = Unit
+Late b (mask i) r = Unit
+Late b (radius c) r = Unit
+Late b (next c) r = (r .said ≡ refused 10) ↔ (NoneListed b (next c) × noEnding (b .row) c .Met)
+Late b (fold i k output) r =
+    ((r .said ≡ refused 9) ↔ (NoneListed b (fold i k output) × noSplit (b .row) i k .Met))
+    × ((r .said ≡ refused 5) ↔ (NoneListed b (fold i k output) × recordLonger (b .row) i k output .Met))
+
+-- for a call of a run, b being the book before it
+pub record Answered (b : Book) (call : Call) (r : Reply) : Type 0 where
+  -- a call is refused under a number exactly where that is the first line that it meets, 9, 10 and 5 among them
+  pub refuses : (number : ℕ) → (r .said ≡ refused number) ↔ First (lines b call) number
+  pub keeps : (number : ℕ) → r .said ≡ refused number → r .list ≡ lent call
+  -- "Every other call is accepted", and says what document 01 says
+  pub accepts : Accepted (r .said) ↔ NoneMet (lines b call)
+  pub says : NoneMet (lines b call) → Says b call r
+  pub late : Late b call r
+
+-- each call of the run: the calls after it may be none
+abbrev pub Demand1Run : List Made → Type 0
+Demand1Run ms = (xs ys : List Made) (m : Made) → ms ≡ xs ++ m ∷ ys → Answered (bookOf (calls xs)) (callOf m) (replyOf m)
+
+-- show and its companion, on one input: 4, then 6, else the part
+pub record ShowRight (letters ends : List ℕ) (s : ℕ) (part : List ℕ) (number : ℕ) : Type 0 where
+  pub refuses : (x : ℕ) → x ≢ 0 → (number ≡ x) ↔ First (showLines letters ends s) x
+  -- "A refused show hands back an empty part"
+  pub empty : number ≢ 0 → part ≡ []
+  -- "0 for an accepted show"
+  pub accepts : (number ≡ 0) ↔ NoneMet (showLines letters ends s)
+  pub gives : NoneMet (showLines letters ends s) → PartOf letters ends s part
+
+-- lift: 2, else the lift
+pub record LiftRight (letter : ℕ) (said : Said) : Type 0 where
+  pub refuses : (x : ℕ) → (said ≡ refused x) ↔ First (liftLines letter) x
+  pub gives : NoneMet (liftLines letter) → said ≡ gave (lift letter ∷ [])
+
+-- Demand 2
 
 pub record Demand2 (d : Draft) (ms : List Made) : Type 0 where
   -- for each prefix
@@ -114,17 +170,48 @@ pub record Demand3 (d : Draft) (ms : List Made) : Type 0 where
       → (p q : CentreAnswer) (a b : ℕ) → LongestPromise (last d xs) p → LongestPromise (r .state) q → centreSays p ≡ gave (a ∷ [])
       → centreSays q ≡ gave (b ∷ []) → a ≤ b
 
--- Demand 1 of every call; demands 2 and 3 each one claim about a whole list
+-- The state after a run
+
+-- "The row word of prefix i ..", "The gathered word at place i .. After every call all gathered words hold this."
+pub record WordsRight (d : Draft) (ms : List Made) : Type 0 where
+  pub rows : (i : ℕ) → i ≤ length (rowOf ms) → at (last d ms .rows) i ≡ rowWord (sectionsOf ms) (word (rowOf ms)) i
+  pub gathered : (i : ℕ) → i ≤ length (rowOf ms)
+      → at (last d ms .gathered) i ≡ gatheredWord (sectionsOf ms) (word (rowOf ms)) (length (rowOf ms)) i
+
+-- Of every call on any state; and of every run that opens with an accepted start, each one claim about the whole list
 
 abbrev pub Demand1Holds : Type 0
 Demand1Holds = (d : Draft) (m : Made) → Meets d m → Demand1 d m
 
+abbrev pub OfEveryRun : (Draft → List Made → Type 0) → Type 0
+OfEveryRun P = (d : Draft) (K : ℕ) (r : Started) (ms : List Made) → Opened d K r ms → P d (started K r ∷ ms)
+
+abbrev pub Demand1RunHolds : Type 0
+Demand1RunHolds = OfEveryRun (λ d ms. Demand1Run ms)
+
 abbrev pub Demand2Holds : Type 0
-Demand2Holds = (d : Draft) (K : ℕ) (r : Started) (ms : List Made) → Opened d K r ms → Demand2 d (started K r ∷ ms)
+Demand2Holds = OfEveryRun Demand2
 
 abbrev pub Demand3Holds : Type 0
-Demand3Holds = (d : Draft) (K : ℕ) (r : Started) (ms : List Made) → Opened d K r ms → Demand3 d (started K r ∷ ms)
+Demand3Holds = OfEveryRun Demand3
+
+abbrev pub WordsHold : Type 0
+WordsHold = OfEveryRun WordsRight
+
+-- the state is a function of the book: the empty draft with the row's letters fed one after another. Whatever was stored before,
+-- refused or asked between, or lent as a visit list counts for nothing
+abbrev pub StateOfBook : Type 0
+StateOfBook = OfEveryRun (λ d ms. last d ms ≡ stateOfBook (bookOf (calls ms)))
 
 -- The transcript: every answer and every lent list of a run follows from the calls' arguments alone
 abbrev pub Transcript : Type 0
-Transcript = (d : Draft) (K : ℕ) (r : Started) (ms : List Made) → Opened d K r ms → map replyOf (started K r ∷ ms) ≡ replies blank (calls (started K r ∷ ms))
+Transcript = OfEveryRun (λ d ms. map replyOf ms ≡ replies blank (calls ms))
+
+-- Of every call that is given no state
+
+abbrev pub ShowHolds : Type 0
+ShowHolds = (letters ends : List ℕ) (s : ℕ) (part : List ℕ) (number : ℕ) → ShowPromise letters ends s part → ShowNumberPromise letters ends s number
+    → ShowRight letters ends s part number
+
+abbrev pub LiftHolds : Type 0
+LiftHolds = (letter : ℕ) (r : LiftAnswer) → LiftPromise letter r → LiftRight letter (liftSays r)

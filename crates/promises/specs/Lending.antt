@@ -1,6 +1,6 @@
 -- How the calls on lent arrays meet their promises: each refused under its number, or accepted with what was read.
 use mathlib.Core.Path.{_≡_, refl, sym, ap, _∙_}
-use mathlib.Core.Bool.{Bool, true, false}
+use mathlib.Core.Bool.{Bool, true, false, true≢false, false≢true}
 use mathlib.Core.List.{List, [], _∷_, _++_}
 use mathlib.Core.Option.{Option, some, none}
 use Prim.Native.Nat.{ℕ, _≤_, _<_}
@@ -26,11 +26,11 @@ use Rattle.promises.specs.declared.SplitAnswer.the-variants.{Split, Refu
 use Rattle.promises.specs.declared.RecordAnswer.{RecordAnswer}
 use Rattle.promises.specs.declared.RecordAnswer.the-variants.{Refused as RecordRefused}
 use Rattle.promises.specs.declared.LiftAnswer.the-variants.{Lift, Refused as LiftRefused}
-use Rattle.promises.specs.Answers.{gave, refused, Reply, reply, maskSays, radiusSays, centreSays, splitSays, recordSays}
+use Rattle.promises.specs.Answers.{gave, refused, Reply, reply, maskSays, radiusSays, centreSays, splitSays, recordSays, filled}
 use Rattle.promises.specs.Refusals.{maskRefusal, centreRefusal, longestRefusal, splitRefusal, recordRefusal, liftRefusal}
 use Rattle.promises.specs.Record.{recordOf}
 use Rattle.promises.specs.Lifts.{lift}
-use Rattle.promises.specs.Replies.{unless, filled, orNoSplit, orNoEnding, orTooLong, maskReply, radiusReply, longestReply, nextReply, splitReply, recordReply, liftReply}
+use Rattle.promises.specs.Replies.{unless, orNoSplit, orNoEnding, orTooLong, maskReply, radiusReply, longestReply, nextReply, splitReply, recordReply, liftReply}
 use Rattle.promises.specs.Promises.{maskByte, LiftPromise}
 use Rattle.promises.specs.Lent.{MaskOn, RadiusOn, LongestOn, NextOn, SplitOn, RecordOn}
 use Rattle.promises.specs.Passing.{split-fits}
@@ -145,7 +145,7 @@ module _ (n K s : ℕ) (rows R : List ℕ) (i : Place) (k : ℕ) (before : List 
         go : (o : Option (List ℕ)) → Stores o before false after
             → reply (refused 9) after ≡ orNoSplit o before (λ ends. reply (gave (length ends ∷ [])) (filled ends before))
         go none h = ap (reply (refused 9)) (h .list)
-        go (some ends) h = absurd (let z : _≡_ {A = ℕ} 0 1 = ap (λ b. elim b [ true ↦ 1 | false ↦ 0 ]) (h .tells) in omega arith)
+        go (some ends) h = absurd (false≢true (h .tells))
 
     pub split-given : number ≤ 0 → (b : Bool) (after : List ℕ) → Stores (splitBy rows R n (longestOf n s) k (i .0)) before b after → b ≡ true
         → SplitOn n K s rows R i k before (Split k) after
@@ -154,7 +154,7 @@ module _ (n K s : ℕ) (rows R : List ℕ) (i : Place) (k : ℕ) (before : List 
       where
         go : (o : Option (List ℕ)) → found ≡ o → Stores o before true after
             → reply (gave (k ∷ [])) after ≡ orNoSplit o before (λ ends. reply (gave (length ends ∷ [])) (filled ends before))
-        go none q h = absurd (let z : _≡_ {A = ℕ} 1 0 = ap (λ b. elim b [ true ↦ 1 | false ↦ 0 ]) (h .tells) in omega arith)
+        go none q h = absurd (true≢false (h .tells))
         go (some ends) q h =
             let c : length ends ≡ k = split-length rows R n (longestOf n s) k (i .0) ends q in
             let room : k ≤ length before = split-fits n K (i .0) k (length before) (sym e ∙ omega arith) .1 in
@@ -189,7 +189,7 @@ module _ (n K s : ℕ) (letters rows R : List ℕ) (i : Place) (k : ℕ) (before
         go : (o : Option (List ℕ)) → Stores o list false after
             → reply (refused 9) before ≡ orNoSplit o before (λ ends. orTooLong (recordOf (word letters) (i .0) ends) before)
         go none h = refl
-        go (some ends) h = absurd (let z : _≡_ {A = ℕ} 0 1 = ap (λ b. elim b [ true ↦ 1 | false ↦ 0 ]) (h .tells) in omega arith)
+        go (some ends) h = absurd (false≢true (h .tells))
 
     -- part is what was stored of the ends: the first k entries of a list of k or more
     pub record-given : number ≤ 0 → (r : RecordAnswer) (b : Bool) (list stores part after : List ℕ)
@@ -201,7 +201,7 @@ module _ (n K s : ℕ) (letters rows R : List ℕ) (i : Place) (k : ℕ) (before
       where
         go : (o : Option (List ℕ)) → found-ends ≡ o → Stores o list true stores
             → orTooLong (recordOf (word letters) (i .0) part) before ≡ orNoSplit o before (λ ends. orTooLong (recordOf (word letters) (i .0) ends) before)
-        go none q h = absurd (let z : _≡_ {A = ℕ} 1 0 = ap (λ b. elim b [ true ↦ 1 | false ↦ 0 ]) (h .tells) in omega arith)
+        go none q h = absurd (true≢false (h .tells))
         go (some ends) q h =
             let c : length ends ≡ k = split-length rows R n (longestOf n s) k (i .0) ends q in
             let t : part ≡ ends = p ∙ ap (take k) (h .list ∙ sets-front ends list (omega (arith, c))) ∙ take-at ends _ k c in

@@ -16,11 +16,11 @@ use Rattle.promises.specs.declared.SplitAnswer.{SplitAnswer}
 use Rattle.promises.specs.declared.RecordAnswer.{RecordAnswer}
 use Rattle.promises.specs.Promises.{MaskPromise, RadiusPromise, LongestPromise, NextPromise, SplitPromise, RecordPromise}
 
-abbrev pub started : StartAnswer → Draft → Started
-started answer state = record { answer = answer; state = state }
+abbrev pub startedAs : StartAnswer → Draft → Started
+startedAs answer state = record { answer = answer; state = state }
 
-abbrev pub fed : FeedAnswer → Draft → Fed
-fed answer state = record { answer = answer; state = state }
+abbrev pub fedAs : FeedAnswer → Draft → Fed
+fedAs answer state = record { answer = answer; state = state }
 
 abbrev pub MaskOn : (n k : ℕ) (rows : List ℕ) (i : Place) (r : MaskAnswer) → Type 0
 MaskOn n k rows i r = (d : Draft) → d .n ≡ n → d .k ≡ k → d .rows ≡ rows → MaskPromise d i r

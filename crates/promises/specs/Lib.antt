@@ -5,9 +5,13 @@ pub mod Record
 pub mod Lifts
 pub mod Book
 pub mod Replies
+pub mod Listed
+pub mod Says
+pub mod State
 pub mod Holds
 pub mod Promises
 pub mod Lent
+pub mod Drafts
 pub mod Runs
 pub mod Demands
 -- laws

@@ -1,6 +1,6 @@
 -- The lifts: "Each letter lifts two of eight harnesses; harness h is bit h-1 of a lift byte."
-use mathlib.Core.Path.{_≡_, refl, ap}
-use mathlib.Core.Bool.{Bool, true, false}
+use mathlib.Core.Path.{_≡_, refl}
+use mathlib.Core.Bool.{Bool, true, false, not, _&&_, false≢true, and-eq-true-iff}
 use mathlib.Core.Logic.{_≢_}
 use mathlib.Core.List.{List, [], _∷_, map}
 use Prim.Native.Nat.{ℕ, zero, suc, _+_, _-_, _^_, _≤_, _<_}
@@ -9,7 +9,6 @@ use lib.Dec.{ltb, eqb}
 use lib.ListN.{length, getD}
 use borrow.Author.Tests.{ltb-true, eqb-true, eqb-false}
 use Rattle.words.specs.Definitions.{firstLetter, lastLetter, bit}
-use Rattle.promises.specs.Refusals.{both}
 
 -- a pair of harnesses
 pub record Pair : Type 0 where
@@ -47,38 +46,34 @@ abbrev pub bitsSet : ℕ → ℕ
 bitsSet x = bit x 0 + bit x 1 + bit x 2 + bit x 3 + bit x 4 + bit x 5 + bit x 6 + bit x 7
 
 two-bits : ℕ → Bool
-two-bits x = both (ltb x 256) (eqb (bitsSet x) 2)
+two-bits x = ltb x 256 && eqb (bitsSet x) 2
 
 differs : ℕ → ℕ → Bool
-differs x y = elim (eqb x y) [ true ↦ false | false ↦ true ]
+differs x y = not (eqb x y)
 
 every : (ℕ → Bool) → List ℕ → Bool
 every p [] = true
-every p (x ∷ l) = both (p x) (every p l)
+every p (x ∷ l) = p x && every p l
 
 distinct : List ℕ → Bool
 unfolding every differs
 distinct [] = true
-distinct (x ∷ l) = both (every (differs x) l) (distinct l)
+distinct (x ∷ l) = every (differs x) l && distinct l
 
-tested : both (every two-bits lifts) (distinct lifts) ≡ true
+tested : (every two-bits lifts && distinct lifts) ≡ true
 unfolding every two-bits distinct differs
 tested = refl
 
 -- from the test to each entry
 
-parts : (a b : Bool) → both a b ≡ true → (a ≡ true) × (b ≡ true)
-parts true b e = (refl, e)
-parts false b e = absurd (let z : _≡_ {A = ℕ} 0 1 = ap (λ t. elim t [ true ↦ 1 | false ↦ 0 ]) e in omega arith)
-
 every-at : (p : ℕ → Bool) (l : List ℕ) → every p l ≡ true → (i : ℕ) → i < length l → p (getD l i 0) ≡ true
 unfolding every
 every-at p [] e i h = absurd (omega arith)
-every-at p (x ∷ l) e zero h = parts (p x) (every p l) e .0
-every-at p (x ∷ l) e (suc i) h = every-at p l (parts (p x) (every p l) e .1) i (omega arith)
+every-at p (x ∷ l) e zero h = and-eq-true-iff (p x) (every p l) .0 e .0
+every-at p (x ∷ l) e (suc i) h = every-at p l (and-eq-true-iff (p x) (every p l) .0 e .1) i (omega arith)
 
-negated : (b : Bool) → elim b [ true ↦ false | false ↦ true ] ≡ true → b ≡ false
-negated true e = absurd (let z : _≡_ {A = ℕ} 0 1 = ap (λ t. elim t [ true ↦ 1 | false ↦ 0 ]) e in omega arith)
+negated : (b : Bool) → not b ≡ true → b ≡ false
+negated true e = absurd (false≢true e)
 negated false e = refl
 
 differ : (x y : ℕ) → differs x y ≡ true → x ≢ y
@@ -89,16 +84,16 @@ distinct-at : (l : List ℕ) → distinct l ≡ true → (i j : ℕ) → i < j �
 unfolding distinct
 distinct-at [] e i j h m = absurd (omega arith)
 distinct-at (x ∷ l) e i zero h m = absurd (omega arith)
-distinct-at (x ∷ l) e zero (suc j) h m = differ x (getD l j 0) (every-at (differs x) l (parts (every (differs x) l) (distinct l) e .0) j (omega arith))
-distinct-at (x ∷ l) e (suc i) (suc j) h m = distinct-at l (parts (every (differs x) l) (distinct l) e .1) i j (omega arith) (omega arith)
+distinct-at (x ∷ l) e zero (suc j) h m = differ x (getD l j 0) (every-at (differs x) l (and-eq-true-iff (every (differs x) l) (distinct l) .0 e .0) j (omega arith))
+distinct-at (x ∷ l) e (suc i) (suc j) h m = distinct-at l (and-eq-true-iff (every (differs x) l) (distinct l) .0 e .1) i j (omega arith) (omega arith)
 
 pub lift-two : (letter : ℕ) → firstLetter ≤ letter → letter ≤ lastLetter → (lift letter < 256) × (bitsSet (lift letter) ≡ 2)
 unfolding two-bits
 lift-two letter a b =
-    let t = parts (every two-bits lifts) (distinct lifts) tested .0 in
-    let r = parts _ _ (every-at two-bits lifts t (letter - firstLetter) (omega arith)) in
+    let t = and-eq-true-iff (every two-bits lifts) (distinct lifts) .0 tested .0 in
+    let r = and-eq-true-iff (ltb (lift letter) 256) (eqb (bitsSet (lift letter)) 2) .0 (every-at two-bits lifts t (letter - firstLetter) (omega arith)) in
     (ltb-true _ _ (r .0), eqb-true _ _ (r .1))
 
 pub lifts-differ : (x y : ℕ) → firstLetter ≤ x → x < y → y ≤ lastLetter → lift x ≢ lift y
 lifts-differ x y a b c =
-    distinct-at lifts (parts (every two-bits lifts) (distinct lifts) tested .1) (x - firstLetter) (y - firstLetter) (omega arith) (omega arith)
+    distinct-at lifts (and-eq-true-iff (every two-bits lifts) (distinct lifts) .0 tested .1) (x - firstLetter) (y - firstLetter) (omega arith) (omega arith)

@@ -4,36 +4,37 @@ use mathlib.Core.List.{List, [], _∷_, _++_}
 use Prim.Native.Nat.{ℕ, suc, _+_, _/_, _^_, _≤_, _<_}
 use native.Mathlib.Omega.{arith}
 use lib.Pow.{pow-mono}
-use lib.ListN.{length, drop, set, replicate, length-append}
-use Rattle.words.specs.Definitions.{mostPicks, mostSections, word}
+use lib.ListN.{length, drop, length-append}
+use Rattle.words.specs.Definitions.{mostSections, word}
 use Rattle.words.specs.Computed.{visits}
 use Rattle.words.specs.Computed.{mask as maskOf}
 use Rattle.words.specs.Laws.{row-lt}
-use Rattle.models.specs.Core.{After, Appends, Means, held-none}
+use Rattle.models.specs.Core.{Arrays, After, append-arrays, Appends, Means, held-none}
 use Rattle.models.specs.Core.{Holds as ArraysHold}
-use Rattle.models.specs.Scanning.{places, centres}
 use Rattle.promises.specs.declared.Draft.{Draft}
+use Rattle.promises.specs.declared.Started.{Started}
 use Rattle.promises.specs.declared.StartAnswer.the-variants.{Begun, Refused as StartRefused}
 use Rattle.promises.specs.declared.FeedAnswer.the-variants.{Taken, Refused as FeedRefused}
-use Rattle.promises.specs.Answers.{gave, refused, reply}
+use Rattle.promises.specs.Answers.{gave, refused, reply, filled}
 use Rattle.promises.specs.Refusals.{startRefusal, feedRefusal}
 use Rattle.promises.specs.Book.{Book, book, feedTaken, write}
-use Rattle.promises.specs.Replies.{filled, startReply, feedReply, fedMask, fedVisits, replyTo}
+use Rattle.promises.specs.Replies.{startReply, feedReply, fedMask, fedVisits, replyTo}
 use Rattle.promises.specs.Passing.{start-fits, feed-fits}
 use Rattle.promises.specs.Taking.{Case, taken, left, feed-cases, unless-zero, unless-not}
-use Rattle.promises.specs.Holds.{Holds, draftOf, arraysOf}
+use Rattle.promises.specs.State.{fresh, arraysOf, stateWith, withPick}
+use Rattle.promises.specs.Holds.{Holds}
 use Rattle.promises.specs.Promises.{maskByte, StartPromise, Feeds, FeedPromise}
 
 -- Start
 
--- the state that a start makes
-abbrev pub fresh : ℕ → Draft
-fresh K =
-    draftOf 0 K 1 (replicate mostPicks 0) (replicate centres 0) (replicate places 0) (replicate centres 0) (replicate centres 0) (replicate centres 0)
-    (set (replicate places 0) 0 1) (set (replicate places 0) 0 1)
-
 fresh-holds : (K : ℕ) → 1 ≤ K → K ≤ mostSections → Holds (fresh K) (book K [])
 fresh-holds K a b = record { least = a; most = b; sections = refl; picks = refl; arrays = held-none K }
+
+-- an accepted start holds the empty draft
+pub start-holds : {d : Draft} {K : ℕ} {r : Started} → StartPromise d K r → startRefusal K ≡ 0 → Holds (r .state) (book K [])
+start-holds {K = K} p z =
+    let k = start-fits K z in
+    subst (λ s. Holds s (book K [])) (sym (p .begins z)) (fresh-holds K (k .0) (k .1))
 
 module _ (d : Draft) (K number : ℕ) (e : number ≡ startRefusal K) where
   pub start-refused : 0 < number → StartPromise d K (record { answer = StartRefused number; state = d })
@@ -48,10 +49,13 @@ module _ (d : Draft) (K number : ℕ) (e : number ≡ startRefusal K) where
   unfolding startReply startRefusal
   start-begun l =
       let z : startRefusal K ≡ 0 = omega (arith, e) in
-      let k = start-fits K z in
-      record { says = sym (unless-zero (startRefusal K) [] _ z); refuses = λ f. absurd (f z); begins = λ _. fresh-holds K (k .0) (k .1) }
+      record { says = sym (unless-zero (startRefusal K) [] _ z); refuses = λ f. absurd (f z); begins = λ _. refl }
 
 -- Feed
+
+-- a state is its numbers and its arrays
+state-as : (s : Draft) (n k : ℕ) (a : Arrays) → s .n ≡ n → s .k ≡ k → arraysOf s ≡ a → s ≡ stateWith n k a
+state-as s n k a p q r = rw (← p, ← q, ← r)
 
 pub byte-mask : (K x : ℕ) → K ≤ mostSections → x < 2 ^ suc K → maskByte x ≡ x / 2
 byte-mask K x a b = omega (arith, pow-mono {i = suc K} {j = 9} (omega arith))
@@ -116,6 +120,12 @@ module _ (d : Draft) (pick : ℕ) (before : List ℕ) (number : ℕ) (e : number
           });
         }
 
+    stored : state ≡ withPick d pick
+    unfolding withPick
+    stored =
+        state-as state (d .n + 1) (d .k) _ more same
+        (parts ∙ ap (λ x. x .arrays) (a .computes) ∙ append-arrays (d .k) (d .n) pick (arraysOf d) before)
+
     pub feed-taken : FeedPromise d pick before (record { answer = Taken (maskByte (z .row)) (z .count); state = state }) (z .visits)
     feed-taken = record {
       meaning = λ b h. feed-taken-means h;
@@ -126,8 +136,6 @@ module _ (d : Draft) (pick : ℕ) (before : List ℕ) (number : ℕ) (e : number
         few = a .few;
         size = a .size;
         later = a .later;
-        more = more;
-        sections = same;
-        arrays = parts;
+        stores = stored;
       });
     }

@@ -1,6 +1,6 @@
 -- What a call's number 0 says of its arguments.
 use mathlib.Core.Path.{_≡_, refl, ap, _∙_}
-use mathlib.Core.Bool.{Bool, true, false}
+use mathlib.Core.Bool.{Bool, true, false, _&&_, decide, decide-iff, and-eq-true-iff}
 use mathlib.Core.List.{List}
 use Prim.Native.Nat.{ℕ, zero, suc, _+_, _*_, _≤_, _<_}
 use native.Mathlib.Omega.{arith}
@@ -10,18 +10,14 @@ use lib.ListN.{length}
 use borrow.Author.Tests.{leb-true, ltb-true, le-leb, lt-leb, le-ltb, lt-ltb}
 use Rattle.words.specs.Definitions.{mostPicks, mostSections, mostVisits, firstLetter, lastLetter, Rising}
 use Rattle.words.specs.Computed.{rising?}
-use Rattle.promises.specs.Refusals.{both, between, holds, test, line1, line2, line3, line4, line6, line7, line8, startRefusal, feedRefusal, maskRefusal, centreRefusal, longestRefusal, splitRefusal, recordRefusal, showRefusal, liftRefusal}
+use Rattle.promises.specs.Refusals.{between, test, line1, line2, line3, line4, line6, line7, line8, startRefusal, feedRefusal, maskRefusal, centreRefusal, longestRefusal, splitRefusal, recordRefusal, showRefusal, liftRefusal}
 
 test-zero : (t : Bool) (number after : ℕ) → 0 < number → test t number after ≡ 0 → (t ≡ true) × (after ≡ 0)
 test-zero true number after l e = (refl, e)
 test-zero false number after l e = absurd (omega arith)
 
-both-true : (a b : Bool) → both a b ≡ true → (a ≡ true) × (b ≡ true)
-both-true true b e = (refl, e)
-both-true false b e = absurd (let z : _≡_ {A = ℕ} 0 1 = ap (λ t. elim t [ true ↦ 1 | false ↦ 0 ]) e in omega arith)
-
-between-true : (low high x : ℕ) → between low high x ≡ true → (low ≤ x) × (x ≤ high)
-between-true low high x e = let r = both-true _ _ e in (leb-true low x (r .0), leb-true x high (r .1))
+pub between-true : (low high x : ℕ) → between low high x ≡ true → (low ≤ x) × (x ≤ high)
+between-true low high x e = let r = and-eq-true-iff (leb low x) (leb x high) .0 e in (leb-true low x (r .0), leb-true x high (r .1))
 
 -- 7 passed
 pub record Passed (n K : ℕ) : Type 0 where
@@ -32,7 +28,7 @@ pub record Passed (n K : ℕ) : Type 0 where
 passed : (n K after : ℕ) → line7 n K after ≡ 0 → Passed n K × (after ≡ 0)
 passed n K after e =
     let a = test-zero _ 7 after (omega arith) e in
-    let b = both-true _ _ (a .0) in
+    let b = and-eq-true-iff (leb n mostPicks) (between 1 mostSections K) .0 (a .0) in
     let c = between-true 1 mostSections K (b .1) in
     (record { picks = leb-true n mostPicks (b .0); least = c .0; most = c .1 }, a .1)
 
@@ -79,11 +75,7 @@ unfolding showRefusal
 show-fits letters ends s e =
     let a = test-zero (between 1 (length ends) s) 4 (line6 letters ends 0) (omega arith) e in
     let b = between-true 1 (length ends) s (a .0) in
-    (b .0, b .1, rises (rising? (length letters) 0 ends) (test-zero (holds (rising? (length letters) 0 ends)) 6 0 (omega arith) (a .1) .0))
-  where
-    rises : (d : Dec (Rising (length letters) 0 ends)) → holds d ≡ true → Rising (length letters) 0 ends
-    rises (yes h) t = h
-    rises (no f) t = absurd (let z : _≡_ {A = ℕ} 0 1 = ap (λ b. elim b [ true ↦ 1 | false ↦ 0 ]) t in omega arith)
+    (b .0, b .1, decide-iff (rising? (length letters) 0 ends) .0 (test-zero (decide (rising? (length letters) 0 ends)) 6 0 (omega arith) (a .1) .0))
 
 pub record SplitFits (n K i k : ℕ) : Type 0 where
   pub state : Passed n K
@@ -124,17 +116,17 @@ pub feed-order : (n K pick entries : ℕ)
     → orElse (line7 n K 0) (orElse (line2 pick 0) (orElse (line3 mostVisits entries 0) (line8 n 0))) ≡ feedRefusal n K pick entries
 unfolding feedRefusal
 feed-order n K pick entries =
-    or-else (both (leb n mostPicks) (between 1 mostSections K)) 6 _
+    or-else (leb n mostPicks && between 1 mostSections K) 6 _
     ∙ ap (line7 n K) (or-else (between firstLetter lastLetter pick) 1 _ ∙ ap (line2 pick) (or-else (leb mostVisits entries) 2 _))
 
 pub mask-order : (n K i : ℕ) → orElse (line7 n K 0) (line4 0 n i 0) ≡ maskRefusal n K i
 unfolding maskRefusal
-mask-order n K i = or-else (both (leb n mostPicks) (between 1 mostSections K)) 6 _
+mask-order n K i = or-else (leb n mostPicks && between 1 mostSections K) 6 _
 
 -- last is the last centre where n passes
 pub centre-order : (n K last c : ℕ) → (n ≤ mostPicks → last ≡ 2 * n + 1) → orElse (line7 n K 0) (line4 1 last c 0) ≡ centreRefusal n K c
 unfolding centreRefusal
-centre-order n K last c f = or-else (both (leb n mostPicks) (between 1 mostSections K)) 6 _ ∙ elim (decLe n mostPicks) [
+centre-order n K last c f = or-else (leb n mostPicks && between 1 mostSections K) 6 _ ∙ elim (decLe n mostPicks) [
   | yes l ↦ rw (f l)
   | no l ↦ simp (lt-leb n mostPicks (omega arith))
 ]
@@ -143,12 +135,12 @@ pub split-order : (n K i k entries : ℕ)
     → orElse (line7 n K 0) (orElse (line1 K k 0) (orElse (line3 k entries 0) (line4 0 n i 0))) ≡ splitRefusal n K i k entries
 unfolding splitRefusal
 split-order n K i k entries =
-    or-else (both (leb n mostPicks) (between 1 mostSections K)) 6 _
+    or-else (leb n mostPicks && between 1 mostSections K) 6 _
     ∙ ap (line7 n K) (or-else (between 1 K k) 0 _ ∙ ap (line1 K k) (or-else (leb k entries) 2 _))
 
 pub record-order : (n K i k : ℕ) → orElse (line7 n K 0) (orElse (line1 K k 0) (line4 0 n i 0)) ≡ recordRefusal n K i k
 unfolding recordRefusal
-record-order n K i k = or-else (both (leb n mostPicks) (between 1 mostSections K)) 6 _ ∙ ap (line7 n K) (or-else (between 1 K k) 0 _)
+record-order n K i k = or-else (leb n mostPicks && between 1 mostSections K) 6 _ ∙ ap (line7 n K) (or-else (between 1 K k) 0 _)
 
 pub show-order : (letters ends : List ℕ) (s : ℕ) → orElse (line4 1 (length ends) s 0) (line6 letters ends 0) ≡ showRefusal letters ends s
 unfolding showRefusal
@@ -159,16 +151,16 @@ show-order letters ends s = or-else (between 1 (length ends) s) 3 _
 abbrev pub Number : Bool → ℕ → ℕ → Type 0
 Number t number r = r ≡ test t number 0
 
-both-no : (a : Bool) → both a false ≡ false
-both-no true = refl
-both-no false = refl
+and-false : (a : Bool) → (a && false) ≡ false
+and-false true = refl
+and-false false = refl
 
 module _ (low high x number : ℕ) where
   pub below : x < low → Number (between low high x) number number
   below l = simp (lt-leb low x l)
 
   pub above : high < x → Number (between low high x) number number
-  above l = simp (lt-leb x high l, both-no (leb low x))
+  above l = simp (lt-leb x high l, and-false (leb low x))
 
   pub inside : low ≤ x → x ≤ high → Number (between low high x) number 0
   inside l h = simp (le-leb low x l, le-leb x high h)

@@ -5,7 +5,7 @@ use mathlib.Core.Path.{_≡_}
 use mathlib.Core.Logic.{_≢_}
 use mathlib.Core.List.{List, [], _∷_}
 use mathlib.Core.Option.{Option}
-use Prim.Native.Nat.{ℕ, _+_, _/_, _%_, _≤_}
+use Prim.Native.Nat.{ℕ, _/_, _%_, _≤_}
 use lib.ListN.{length, drop}
 use Rattle.words.specs.Definitions.{mostVisits, word}
 use Rattle.models.specs.Core.{After, append}
@@ -26,9 +26,10 @@ use Rattle.promises.specs.declared.RecordAnswer.{RecordAnswer}
 use Rattle.promises.specs.declared.LiftAnswer.{LiftAnswer}
 use Rattle.promises.specs.Answers.{Said, gave, refused, reply, startSays, feedSays, maskSays, radiusSays, centreSays, splitSays, recordSays, liftSays}
 use Rattle.promises.specs.Refusals.{startRefusal, feedRefusal, showRefusal}
-use Rattle.promises.specs.Book.{Book, book, write, feed, split, longest, mask, radius, next, fold}
+use Rattle.promises.specs.Book.{Book, write, feed, split, longest, mask, radius, next, fold}
 use Rattle.promises.specs.Replies.{startReply, maskReply, radiusReply, longestReply, nextReply, splitReply, recordReply, shown, liftReply, replyTo}
-use Rattle.promises.specs.Holds.{Holds, arraysOf}
+use Rattle.promises.specs.State.{fresh, arraysOf, withPick}
+use Rattle.promises.specs.Holds.{Holds}
 
 -- a row word's mask, in eight bits
 abbrev pub maskByte : ℕ → ℕ
@@ -38,7 +39,8 @@ maskByte row = row / 2 % 256
 pub record StartPromise (d : Draft) (K : ℕ) (r : Started) : Type 0 where
   pub says : reply (startSays (r .answer)) [] ≡ startReply K
   pub refuses : startRefusal K ≢ 0 → r .state ≡ d
-  pub begins : startRefusal K ≡ 0 → Holds (r .state) (book K [])
+  -- the whole state is written
+  pub begins : startRefusal K ≡ 0 → r .state ≡ fresh K
 
 -- Feed
 
@@ -48,22 +50,21 @@ pub record Feeds (b : Book) (pick : ℕ) (before : List ℕ) (said : Said) (stat
   pub holds : Holds state (write b (feed pick before))
 
 -- z is what the core computes; the mask and the lengths visited are its
-pub record FeedComputes (d : Draft) (before : List ℕ) (z : After) (said : Said) (state : Draft) (after : List ℕ) : Type 0 where
+pub record FeedComputes (d : Draft) (pick : ℕ) (before : List ℕ) (z : After) (said : Said) (state : Draft) (after : List ℕ) : Type 0 where
   pub says : said ≡ gave (maskByte (z .row) ∷ z .count ∷ [])
   pub list : after ≡ z .visits
   pub few : z .count ≤ mostVisits
   pub size : length after ≡ length before
   pub later : drop (z .count) after ≡ drop (z .count) before
-  pub more : state .n ≡ d .n + 1
-  pub sections : state .k ≡ d .k
-  pub arrays : arraysOf state ≡ z .arrays
+  -- whatever the visit list
+  pub stores : state ≡ withPick d pick
 
 pub record FeedPromise (d : Draft) (pick : ℕ) (before : List ℕ) (r : Fed) (after : List ℕ) : Type 0 where
   pub meaning : (b : Book) → Holds d b → Feeds b pick before (feedSays (r .answer)) (r .state) after
   pub refuses : feedRefusal (d .n) (d .k) pick (length before) ≢ 0
       → (feedSays (r .answer) ≡ refused (feedRefusal (d .n) (d .k) pick (length before))) × (r .state ≡ d) × (after ≡ before)
   pub computes : feedRefusal (d .n) (d .k) pick (length before) ≡ 0
-      → FeedComputes d before (append (d .k) (d .n) pick (arraysOf d) before) (feedSays (r .answer)) (r .state) after
+      → FeedComputes d pick before (append (d .k) (d .n) pick (arraysOf d) before) (feedSays (r .answer)) (r .state) after
 
 -- The calls that only read
 
@@ -79,9 +80,13 @@ pub record LongestPromise (d : Draft) (r : CentreAnswer) : Type 0 where
   pub meaning : (b : Book) → Holds d b → reply (centreSays r) [] ≡ replyTo b longest
   pub computes : reply (centreSays r) [] ≡ longestReply (d .n) (d .k) (longestOf (d .n) (d .longest .0))
 
+-- the next shorter ending by the stored radii and links
+abbrev pub nextHeld : Draft → (c : ℕ) → Option ℕ
+nextHeld d c = nextOf (d .radius) (d .next) (d .n) (longestOf (d .n) (d .longest .0)) c
+
 pub record NextPromise (d : Draft) (c : Centre) (r : CentreAnswer) : Type 0 where
   pub meaning : (b : Book) → Holds d b → reply (centreSays r) [] ≡ replyTo b (next (c .0))
-  pub computes : reply (centreSays r) [] ≡ nextReply (d .n) (d .k) (c .0) (nextOf (d .radius) (d .next) (d .n) (longestOf (d .n) (d .longest .0)) (c .0))
+  pub computes : reply (centreSays r) [] ≡ nextReply (d .n) (d .k) (c .0) (nextHeld d (c .0))
 
 -- the split by the stored row words and radii
 abbrev pub splitHeld : Draft → (k i : ℕ) → Option (List ℕ)

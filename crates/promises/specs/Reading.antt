@@ -28,15 +28,15 @@ use Rattle.promises.specs.declared.RadiusAnswer.{RadiusAnswer}
 use Rattle.promises.specs.declared.CentreAnswer.{CentreAnswer}
 use Rattle.promises.specs.declared.SplitAnswer.{SplitAnswer}
 use Rattle.promises.specs.declared.RecordAnswer.{RecordAnswer}
-use Rattle.promises.specs.Answers.{gave, reply, maskSays, radiusSays, centreSays, splitSays, recordSays}
+use Rattle.promises.specs.Answers.{gave, reply, maskSays, radiusSays, centreSays, splitSays, recordSays, filled}
 use Rattle.promises.specs.Refusals.{maskRefusal, centreRefusal, splitRefusal, recordRefusal}
 use Rattle.promises.specs.Record.{decimal, sectionFields, behindCommas, recordOf, lineEnd}
 use Rattle.promises.specs.Book.{Book}
-use Rattle.promises.specs.Replies.{orNoSplit, orNoEnding, orTooLong, filled, maskReply, radiusReply, longestReply, nextReply, splitReply, recordReply, replyTo}
+use Rattle.promises.specs.Replies.{orNoSplit, orNoEnding, orTooLong, maskReply, radiusReply, longestReply, nextReply, splitReply, recordReply, replyTo}
 use Rattle.promises.specs.Passing.{mask-fits, centre-fits, record-fits, split-fits}
 use Rattle.promises.specs.Taking.{unless-as}
 use Rattle.promises.specs.Holds.{Holds}
-use Rattle.promises.specs.Promises.{maskByte, splitHeld, MaskPromise, RadiusPromise, LongestPromise, NextPromise, SplitPromise, RecordPromise}
+use Rattle.promises.specs.Promises.{maskByte, nextHeld, splitHeld, MaskPromise, RadiusPromise, LongestPromise, NextPromise, SplitPromise, RecordPromise}
 use Rattle.promises.specs.Meeting.{byte-mask}
 
 -- what is stored, where the state holds what stands in the book
@@ -109,7 +109,7 @@ next-found {w} {n} {s} {R} {N} h c l = go (both? (decLt 0 (2 * n + 1 - c)) (endi
         next-promised R N n s c _ refl .missing w h g ∙ sym (next-missing w n c g l)
 
 module _ (d : Draft) (c : Centre) where
-  next-same : {b : Book} → Holds d b → nextReply (d .n) (d .k) (c .0) (nextOf (d .radius) (d .next) (d .n) (longestOf (d .n) (d .longest .0)) (c .0))
+  next-same : {b : Book} → Holds d b → nextReply (d .n) (d .k) (c .0) (nextHeld d (c .0))
       ≡ nextReply (length (b .row)) (b .K) (c .0) (nextAfter (word (b .row)) (length (b .row)) (c .0))
   unfolding nextReply
   next-same {b} h = rw (h .picks, h .sections) (unless-as (centreRefusal (length (b .row)) (b .K) (c .0)) [] _ _ (λ z.
@@ -117,7 +117,7 @@ module _ (d : Draft) (c : Centre) where
       ap (λ o. reply (orNoEnding o) []) (next-found (endings (h .arrays .iterates)) (c .0) (l .0))))
 
   pub next-call-promised : (r : CentreAnswer)
-      → reply (centreSays r) [] ≡ nextReply (d .n) (d .k) (c .0) (nextOf (d .radius) (d .next) (d .n) (longestOf (d .n) (d .longest .0)) (c .0))
+      → reply (centreSays r) [] ≡ nextReply (d .n) (d .k) (c .0) (nextHeld d (c .0))
       → NextPromise d c r
   unfolding replyTo
   next-call-promised r e = record { meaning = λ b h. e ∙ next-same h; computes = e }

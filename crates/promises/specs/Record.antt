@@ -1,6 +1,6 @@
 -- The folded record: "fields in a fixed order parted by commas, no quoting, closed by byte 10. Picks, sections, then for each
 -- section its length and its first half of letters, the middle pick included"; and the section that show hands back.
-use mathlib.Core.Bool.{Bool, true, false}
+use mathlib.Core.Bool.{cond}
 use mathlib.Core.List.{List, [], _∷_, _++_}
 use Prim.Native.Nat.{ℕ, zero, suc, _+_, _-_, _/_, _%_}
 use lib.Dec.{ltb}
@@ -17,14 +17,10 @@ lineEnd = 10
 abbrev pub digitZero : ℕ
 digitZero = 48
 
-abbrev pub choose : {A : Type 0} → Bool → A → A → A
-choose true a b = a
-choose false a b = b
-
 -- the digits of n, at most so many of them
 unfoldable pub digits : ℕ → ℕ → List ℕ
 digits zero n = []
-digits (suc most) n = choose (ltb n 10) ((digitZero + n) ∷ []) (digits most (n / 10) ++ (digitZero + n % 10) ∷ [])
+digits (suc most) n = cond (ltb n 10) ((digitZero + n) ∷ []) (digits most (n / 10) ++ (digitZero + n % 10) ∷ [])
 
 -- "Numbers are decimal without leading zeros": a number below 10 is its digit, any other the decimal of its tenth and its last digit
 unfoldable pub decimal : ℕ → List ℕ

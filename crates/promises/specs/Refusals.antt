@@ -1,7 +1,7 @@
 -- Document 01's two lists of refusals, and for each call the order in which it tests them: 7 first, then the input numbers in
 -- rising order but for 5, then 8, 9 or 10, then 5. A call's number is that of the first test that fails, 0 where none does.
 -- Numbers 9, 10 and 5 hang on what is found: they are in Replies.antt.
-use mathlib.Core.Bool.{Bool, true, false}
+use mathlib.Core.Bool.{Bool, true, false, _&&_, decide}
 use mathlib.Core.List.{List}
 use Prim.Native.Nat.{ℕ, _+_, _*_}
 use lib.Dec.{leb, ltb}
@@ -9,17 +9,9 @@ use lib.ListN.{length}
 use Rattle.words.specs.Definitions.{mostPicks, mostSections, mostVisits, firstLetter, lastLetter}
 use Rattle.words.specs.Computed.{rising?}
 
-abbrev pub both : Bool → Bool → Bool
-both true b = b
-both false b = false
-
 -- x is from low to high
 abbrev pub between : ℕ → ℕ → ℕ → Bool
-between low high x = both (leb low x) (leb x high)
-
-abbrev pub holds : {A : Type 0} → Dec A → Bool
-holds (yes a) = true
-holds (no f) = false
+between low high x = leb low x && leb x high
 
 -- the number where the test fails, else what comes after it
 abbrev pub test : Bool → ℕ → ℕ → ℕ
@@ -46,11 +38,11 @@ line4 low high x after = test (between low high x) 4 after
 
 -- 6. "Ends not rising strictly from above 0 to exactly the number of lent letters"
 abbrev pub line6 : (letters ends : List ℕ) (after : ℕ) → ℕ
-line6 letters ends after = test (holds (rising? (length letters) 0 ends)) 6 after
+line6 letters ends after = test (decide (rising? (length letters) 0 ends)) 6 after
 
 -- 7. "Stored n above 2,048 or stored K outside 1 to 8"
 abbrev pub line7 : (n K after : ℕ) → ℕ
-line7 n K after = test (both (leb n mostPicks) (between 1 mostSections K)) 7 after
+line7 n K after = test (leb n mostPicks && between 1 mostSections K) 7 after
 
 -- 8. "Feeding with n = 2,048"
 abbrev pub line8 : (n after : ℕ) → ℕ
@@ -88,7 +80,7 @@ recordRefusal n K i k = line7 n K (line1 K k (line4 0 n i 0))
 
 -- 4, 6
 unfoldable pub showRefusal : (letters ends : List ℕ) (s : ℕ) → ℕ
-unfolding rising?
+unfolding rising? decide
 showRefusal letters ends s = line4 1 (length ends) s (line6 letters ends 0)
 
 -- 2

@@ -1,27 +1,24 @@
 -- What each call replies. Each reply is a definition over n and K, the call's arguments, and what is found: the numbers that the
 -- draft's letters decide. `replyTo` reads all of these from the plain book.
-use mathlib.Core.List.{List, [], _∷_, _++_}
+use mathlib.Core.Bool.{cond}
+use mathlib.Core.List.{List, [], _∷_}
 use mathlib.Core.Option.{Option, some, none}
 use Prim.Native.Nat.{ℕ, zero, suc}
 use lib.Dec.{leb}
-use lib.ListN.{length, drop}
+use lib.ListN.{length}
 use Rattle.words.specs.Definitions.{word}
 use Rattle.words.specs.Computed.{longestCentre, nextAfter, radiusAt, visits, splitOf}
 use Rattle.words.specs.Computed.{mask as maskOf}
-use Rattle.promises.specs.Answers.{Said, gave, refused, Reply, reply}
+use Rattle.promises.specs.Answers.{Said, gave, refused, Reply, reply, filled}
 use Rattle.promises.specs.Refusals.{startRefusal, feedRefusal, maskRefusal, centreRefusal, longestRefusal, splitRefusal, recordRefusal, showRefusal, liftRefusal}
-use Rattle.promises.specs.Record.{choose, recordOf, sectionOf}
+use Rattle.promises.specs.Record.{recordOf, sectionOf}
 use Rattle.promises.specs.Lifts.{lift}
-use Rattle.promises.specs.Book.{Book, write, Call, start, feed, split, longest, mask, radius, next, fold}
+use Rattle.promises.specs.Book.{Book, write, Call, start, feed, split, longest, mask, radius, next, fold, fedRow}
 
 -- "A refusal returns its number only; state and lent buffers keep every byte."
 unfoldable pub unless : (number : ℕ) (list : List ℕ) → Reply → Reply
 unless zero list accepted = accepted
 unless (suc number) list accepted = reply (refused (suc number)) list
-
--- "On success, entries past those named keep theirs."
-abbrev pub filled : (front list : List ℕ) → List ℕ
-filled front list = front ++ drop (length front) list
 
 -- 9. "No division of the prefix into k sections exists."
 unfoldable pub orNoSplit : Option (List ℕ) → (list : List ℕ) → (List ℕ → Reply) → Reply
@@ -36,7 +33,7 @@ orNoEnding (some c) = gave (c ∷ [])
 -- 5. "Record longer than the lent output."
 unfoldable pub orTooLong : (bytes output : List ℕ) → Reply
 orTooLong bytes output =
-    choose (leb (length bytes) (length output)) (reply (gave (length bytes ∷ [])) (filled bytes output)) (reply (refused 5) output)
+    cond (leb (length bytes) (length output)) (reply (gave (length bytes ∷ [])) (filled bytes output)) (reply (refused 5) output)
 
 -- The calls
 
@@ -103,10 +100,7 @@ refusalOf n K (fold i k output) = recordRefusal n K i k
 
 -- From the book
 
--- "a feed's prefix is the row with its pick": its mask, and its visits
-abbrev pub fedRow : Book → ℕ → List ℕ
-fedRow b pick = b .row ++ pick ∷ []
-
+-- a feed's mask, and its visits
 abbrev pub fedMask : Book → ℕ → ℕ
 fedMask b pick = maskOf (b .K) (word (fedRow b pick)) (length (fedRow b pick))
 

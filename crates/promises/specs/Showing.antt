@@ -1,6 +1,6 @@
 -- How show meets its promise: the turns of the test for rising ends, and the part that is handed back.
 use mathlib.Core.Path.{_≡_, refl, sym, ap, _∙_}
-use mathlib.Core.Bool.{Bool, true, false}
+use mathlib.Core.Bool.{Bool, true, false, decide}
 use mathlib.Core.List.{List, [], _∷_}
 use Prim.Native.Nat.{ℕ, zero, suc, _+_, _-_, _≤_, _<_}
 use native.Mathlib.Omega.{arith}
@@ -12,7 +12,7 @@ use borrow.Author.Tests.{eq-eqb, ne-eqb}
 use Rattle.words.specs.Definitions.{Rising, done, next}
 use Rattle.words.specs.Computed.{rising?, risen-none, risen-next}
 use Rattle.promises.specs.Answers.{gave, reply}
-use Rattle.promises.specs.Refusals.{holds, line6, showRefusal}
+use Rattle.promises.specs.Refusals.{line6, showRefusal}
 use Rattle.promises.specs.Record.{sectionOf}
 use Rattle.promises.specs.Replies.{shown}
 use Rattle.promises.specs.Promises.{ShowPromise}
@@ -21,15 +21,17 @@ use Rattle.promises.specs.Taking.{unless-zero, unless-not}
 
 -- decisions
 
-holds-as : {A B : Type 0} (x : Dec A) (y : Dec B) → (A → B) → (B → A) → holds x ≡ holds y
-holds-as (yes a) (yes b) f g = refl
-holds-as (no a) (no b) f g = refl
-holds-as (yes a) (no b) f g = absurd (b (f a))
-holds-as (no a) (yes b) f g = absurd (a (g b))
+decide-as : {A B : Type 0} (x : Dec A) (y : Dec B) → (A → B) → (B → A) → decide x ≡ decide y
+unfolding decide
+decide-as (yes a) (yes b) f g = refl
+decide-as (no a) (no b) f g = refl
+decide-as (yes a) (no b) f g = absurd (b (f a))
+decide-as (no a) (yes b) f g = absurd (a (g b))
 
-holds-no : {A : Type 0} (x : Dec A) → (A → ⊥) → holds x ≡ false
-holds-no (yes a) f = absurd (f a)
-holds-no (no g) f = refl
+decide-no : {A : Type 0} (x : Dec A) → (A → ⊥) → decide x ≡ false
+unfolding decide
+decide-no (yes a) f = absurd (f a)
+decide-no (no g) f = refl
 
 -- The test for rising ends, from entry j on: last is the end before it
 
@@ -38,34 +40,35 @@ module _ (letters last j : ℕ) (ends : List ℕ) where
   entry l = let z : j + 1 ≡ suc j = omega arith in rw z (drop-cons ends j 0 l)
 
   pub rising-on : (e : ℕ) → e ≡ getD ends j 0 → j < length ends → last < e
-      → holds (rising? letters e (drop (j + 1) ends)) ≡ holds (rising? letters last (drop j ends))
+      → decide (rising? letters e (drop (j + 1) ends)) ≡ decide (rising? letters last (drop j ends))
   rising-on e q l m = rw (entry l, q)
-      (holds-as (rising? letters (getD ends j 0) (drop (j + 1) ends)) (rising? letters last (getD ends j 0 ∷ drop (j + 1) ends))
+      (decide-as (rising? letters (getD ends j 0) (drop (j + 1) ends)) (rising? letters last (getD ends j 0 ∷ drop (j + 1) ends))
       (λ h. next (omega arith) h) (λ h. risen-next h .1))
 
-  pub rising-stops : (e : ℕ) → e ≡ getD ends j 0 → j < length ends → e ≤ last → false ≡ holds (rising? letters last (drop j ends))
+  pub rising-stops : (e : ℕ) → e ≡ getD ends j 0 → j < length ends → e ≤ last → false ≡ decide (rising? letters last (drop j ends))
   rising-stops e q l m = rw (entry l)
-      (sym (holds-no (rising? letters last (getD ends j 0 ∷ drop (j + 1) ends)) (λ h. omega (arith, risen-next h .0))))
+      (sym (decide-no (rising? letters last (getD ends j 0 ∷ drop (j + 1) ends)) (λ h. omega (arith, risen-next h .0))))
 
-  pub rising-ends : length ends ≤ j → eqb last letters ≡ holds (rising? letters last (drop j ends))
+  pub rising-ends : length ends ≤ j → eqb last letters ≡ decide (rising? letters last (drop j ends))
+  unfolding decide
   rising-ends l = go (drop j ends) (length-drop j ends ∙ omega arith)
     where
-      none-left : holds (rising? letters last []) ≡ eqb last letters
+      none-left : decide (rising? letters last []) ≡ eqb last letters
       none-left = elim (ℕ-discrete last letters) [
-        | yes z ↦ simp (eq-eqb last letters z) (holds-as (rising? letters last []) (yes z) risen-none (λ _. rw z done))
-        | no f ↦ simp (ne-eqb last letters f) (holds-no (rising? letters last []) (λ h. f (risen-none h)))
+        | yes z ↦ simp (eq-eqb last letters z) (decide-as (rising? letters last []) (yes z) risen-none (λ _. rw z done))
+        | no f ↦ simp (ne-eqb last letters f) (decide-no (rising? letters last []) (λ h. f (risen-none h)))
       ]
 
-      go : (l : List ℕ) → length l ≡ 0 → eqb last letters ≡ holds (rising? letters last l)
+      go : (l : List ℕ) → length l ≡ 0 → eqb last letters ≡ decide (rising? letters last l)
       go [] z = sym none-left
       go (x ∷ l) z = absurd (omega arith)
 
 -- the number of line 6
-pub line6-risen : (letters ends : List ℕ) (b : Bool) → b ≡ holds (rising? (length letters) 0 ends) → b ≡ true → 0 ≡ line6 letters ends 0
-line6-risen letters ends b e t = let z : holds (rising? (length letters) 0 ends) ≡ true = sym e ∙ t in rw z
+pub line6-risen : (letters ends : List ℕ) (b : Bool) → b ≡ decide (rising? (length letters) 0 ends) → b ≡ true → 0 ≡ line6 letters ends 0
+line6-risen letters ends b e t = let z : decide (rising? (length letters) 0 ends) ≡ true = sym e ∙ t in rw z
 
-pub line6-fails : (letters ends : List ℕ) (b : Bool) → b ≡ holds (rising? (length letters) 0 ends) → b ≡ false → 6 ≡ line6 letters ends 0
-line6-fails letters ends b e t = let z : holds (rising? (length letters) 0 ends) ≡ false = sym e ∙ t in rw z
+pub line6-fails : (letters ends : List ℕ) (b : Bool) → b ≡ decide (rising? (length letters) 0 ends) → b ≡ false → 6 ≡ line6 letters ends 0
+line6-fails letters ends b e t = let z : decide (rising? (length letters) 0 ends) ≡ false = sym e ∙ t in rw z
 
 -- The part
 

@@ -1,6 +1,6 @@
 -- The order of tests and the book: a call has the number 0 exactly where the book takes it, and what it replies under a number.
-use mathlib.Core.Path.{_≡_, refl, sym, ap, _∙_}
-use mathlib.Core.Bool.{Bool, true, false}
+use mathlib.Core.Path.{_≡_, refl, sym, _∙_}
+use mathlib.Core.Bool.{Bool, true, false, _&&_, true≢false}
 use mathlib.Core.Logic.{_≢_}
 use mathlib.Core.List.{List}
 use Prim.Native.Nat.{ℕ, zero, suc, _≤_}
@@ -10,7 +10,7 @@ use lib.ListN.{length}
 use borrow.Author.Tests.{le-leb}
 use Rattle.words.specs.Definitions.{mostPicks, mostSections, mostVisits, firstLetter, lastLetter}
 use Rattle.promises.specs.Answers.{refused, Reply, reply}
-use Rattle.promises.specs.Refusals.{both, between, test, line7, startRefusal, feedRefusal}
+use Rattle.promises.specs.Refusals.{between, test, line7, startRefusal, feedRefusal}
 use Rattle.promises.specs.Book.{Book, startTaken, feedTaken}
 use Rattle.promises.specs.Replies.{unless}
 
@@ -21,13 +21,13 @@ pub data Case (t : Bool) (number : ℕ) : Type 0 where
   left : t ≡ false → number ≢ 0 → Case t number
 
 pub true-false : {t : Bool} → t ≡ true → t ≡ false → ⊥
-true-false {t} p q = let z : _≡_ {A = ℕ} 1 0 = ap (λ b. elim b [ true ↦ 1 | false ↦ 0 ]) (sym p ∙ q) in omega arith
+true-false p q = true≢false (sym p ∙ q)
 
 start-case : (t : Bool) → Case t (test t 1 0)
 start-case true = taken refl refl
 start-case false = left refl (λ e. omega arith)
 
-feed-case : (a b c : Bool) → Case (both a (both b c)) (test a 2 (test b 3 (test c 8 0)))
+feed-case : (a b c : Bool) → Case (a && (b && c)) (test a 2 (test b 3 (test c 8 0)))
 feed-case true true true = taken refl refl
 feed-case true true false = left refl (λ e. omega arith)
 feed-case true false c = left refl (λ e. omega arith)

@@ -4,11 +4,11 @@ use cells::ByPlace;
 use cells::Centre;
 use cells::Letters;
 
-// The state of the board. Only start makes one out of nothing, and it does not look at what was stored.
+// The state of the board. Any numbers may be stored in it; a start does not look at them, and makes it an empty draft.
 pub struct Draft {
     // The picks so far, and K.
     pub n: usize,
-    pub k: u8,
+    pub k: usize,
     // The centre of the longest ending.
     pub longest: Centre,
     pub letters: Letters,

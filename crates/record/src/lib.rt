@@ -11,7 +11,7 @@ ghost use Rattle.record.specs.Stores.{Writes};
 ghost use Rattle.record.specs.Decimal.{mostDigits};
 ghost use Rattle.record.specs.Fields.{headBytes};
 
-mod bytes;
+pub mod bytes;
 mod decimal;
 mod section;
 mod sections;
@@ -19,15 +19,13 @@ mod sections;
 use crate::bytes::write_byte;
 use crate::decimal::digit_count;
 use crate::decimal::write_decimal;
-use crate::section::COMMA;
 use crate::sections::sections_size;
 use crate::sections::write_sections;
+use cells::COMMA;
+use cells::LINE_END;
 use cells::Letters;
 use cells::Place;
 use promises::RecordAnswer;
-
-// The byte that closes a record.
-const LINE_END: u8 = 10;
 
 // The number of "record longer than the lent output".
 const TOO_LONG: u8 = 5;

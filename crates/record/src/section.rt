@@ -8,11 +8,9 @@ use crate::bytes::write_byte;
 use crate::bytes::write_letters;
 use crate::decimal::digit_count;
 use crate::decimal::write_decimal;
+use cells::COMMA;
 use cells::Letters;
 use cells::minus;
-
-// The byte between two fields.
-pub const COMMA: u8 = 44;
 
 // How many letters of a section of this length are written: half of them, the middle pick included.
 fn first_half(length: usize) -> usize

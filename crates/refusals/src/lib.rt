@@ -14,13 +14,13 @@ use cells::SECTIONS;
 use cells::VISITS;
 
 // 1: k outside 1 to most.
-pub fn line1(most: u8, k: u8) -> u8
+pub fn line1(most: usize, k: u8) -> u8
     ensures { λ r. ⌜ r ≡ line1 most k 0 ⌝ }
 {
     if k < 1 {
         return 1;
     }
-    if most < k {
+    if most < k as usize {
         return 1;
     }
     0
@@ -63,7 +63,7 @@ pub fn line4(low: usize, high: usize, x: usize) -> u8
 }
 
 // 7: a stored n or K that no draft has.
-pub fn line7(n: usize, most: u8) -> u8
+pub fn line7(n: usize, most: usize) -> u8
     ensures { λ r. ⌜ r ≡ line7 n most 0 ⌝ }
 {
     if PICKS < n {
@@ -103,7 +103,7 @@ pub fn start_refusal(k: u8) -> u8
     line1(SECTIONS, k)
 }
 
-pub fn feed_refusal(n: usize, k: u8, pick: u8, entries: usize) -> u8
+pub fn feed_refusal(n: usize, k: usize, pick: u8, entries: usize) -> u8
     ensures { λ r. ⌜ r ≡ feedRefusal n k pick entries ⌝ }
 {
     let state = line7(n, k);
@@ -113,7 +113,7 @@ pub fn feed_refusal(n: usize, k: u8, pick: u8, entries: usize) -> u8
     first(state, first(letter, first(list, room)))
 }
 
-pub fn mask_refusal(n: usize, k: u8, i: Place) -> u8
+pub fn mask_refusal(n: usize, k: usize, i: Place) -> u8
     ensures { λ r. ⌜ r ≡ maskRefusal n k (i .0) ⌝ }
 {
     let state = line7(n, k);
@@ -131,7 +131,7 @@ fn last_centre(n: usize) -> usize
     0
 }
 
-pub fn centre_refusal(n: usize, k: u8, c: Centre) -> u8
+pub fn centre_refusal(n: usize, k: usize, c: Centre) -> u8
     ensures { λ r. ⌜ r ≡ centreRefusal n k (c .0) ⌝ }
 {
     let state = line7(n, k);
@@ -139,13 +139,13 @@ pub fn centre_refusal(n: usize, k: u8, c: Centre) -> u8
     first(state, centre)
 }
 
-pub fn longest_refusal(n: usize, k: u8) -> u8
+pub fn longest_refusal(n: usize, k: usize) -> u8
     ensures { λ r. ⌜ r ≡ longestRefusal n k ⌝ }
 {
     line7(n, k)
 }
 
-pub fn split_refusal(n: usize, most: u8, i: Place, k: u8, entries: usize) -> u8
+pub fn split_refusal(n: usize, most: usize, i: Place, k: u8, entries: usize) -> u8
     ensures { λ r. ⌜ r ≡ splitRefusal n most (i .0) k entries ⌝ }
 {
     let state = line7(n, most);
@@ -155,7 +155,7 @@ pub fn split_refusal(n: usize, most: u8, i: Place, k: u8, entries: usize) -> u8
     first(state, first(sections, first(list, prefix)))
 }
 
-pub fn record_refusal(n: usize, most: u8, i: Place, k: u8) -> u8
+pub fn record_refusal(n: usize, most: usize, i: Place, k: u8) -> u8
     ensures { λ r. ⌜ r ≡ recordRefusal n most (i .0) k ⌝ }
 {
     let state = line7(n, most);

@@ -2,7 +2,6 @@
 pub mod Definitions
 pub mod Computed
 pub mod Laws
-pub mod Drafts
 -- the theory
 pub mod Search
 pub mod Mirror

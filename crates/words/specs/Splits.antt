@@ -1,14 +1,14 @@
 -- Splits: the last section cut off, the law of the split named, and splits as palindromes joined.
 use mathlib.Core.Path.{_≡_, refl, sym, ap, _∙_}
 use mathlib.Core.Logic.{_≢_}
-use mathlib.Core.List.{List, [], _∷_, _++_}
+use mathlib.Core.List.{List, [], _∷_, _++_, List-discrete}
 use mathlib.Core.Option.{Option, some, none}
 use Prim.Native.Nat.{ℕ, zero, suc, _+_, _-_, _≤_, _<_}
 use native.Mathlib.Omega.{arith}
 use native.Mathlib.Decide.{decLe, decLt, ℕ-discrete}
 use lib.ListN.{length, take, drop, length-append}
 use lib.Seq.{take-at, drop-at}
-use Rattle.words.specs.Definitions.{stretch, prefix, Section, Joined, nothing, another, Ending, Sections, done, next, Split, lengthsBack, here, further, Before, Named}
+use Rattle.words.specs.Definitions.{stretch, prefix, Section, Joined, nothing, another, Ending, Sections, done, next, Split, lengthsBack, Smaller, here, further, Before, Named}
 use Rattle.words.specs.Mirror.{stretch-length, stretch-join, ending?, section-ending, ending-section}
 use Rattle.words.specs.Computed.{cutLast, splitOf, splits}
 
@@ -125,6 +125,20 @@ split-law w zero n = go (ℕ-discrete n 0) refl
     go (yes z) e = rw (e, splitOf) (given [] refl (rw z (record { is = no-picks; first = λ t h f. absurd (f (split-none h .0)) })))
     go (no f) e = rw (e, splitOf) (lacking refl (λ t h. f (split-none h .1)))
 split-law w (suc k) n = cut-law w n k (λ a. splitOf w a k) (λ a. split-law w k a) n (omega arith) (λ t c. omega arith)
+
+-- two splits that are each before every other are one
+
+smaller-not : {s t : List ℕ} → Smaller s t → Smaller t s → ⊥
+smaller-not (here l) (here m) = omega arith
+smaller-not (here l) (further q) = omega arith
+smaller-not (further p) (here m) = omega arith
+smaller-not (further p) (further q) = smaller-not p q
+
+pub named-one : {w : ℕ → ℕ} {n k : ℕ} {s t : List ℕ} → Named w n k s → Named w n k t → s ≡ t
+named-one {s = s} {t = t} p q = elim (List-discrete ℕ-discrete s t) [
+  | yes e ↦ e
+  | no f ↦ absurd (smaller-not (p .first t (q .is) (λ e. f (sym e))) (q .first s (p .is) f))
+]
 
 -- Splits and palindromes joined
 

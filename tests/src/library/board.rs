@@ -73,8 +73,8 @@ impl Board {
     }
 
     /// Stores n, K and the centre of the longest ending.
-    pub fn store(&mut self, n: usize, most_sections: u8, longest: usize) {
-        let numbers = [n, usize::from(most_sections), longest];
+    pub fn store(&mut self, n: usize, most_sections: usize, longest: usize) {
+        let numbers = [n, most_sections, longest];
         self.numbers.inner_mut().copy_from_slice(&numbers);
     }
 

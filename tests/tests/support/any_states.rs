@@ -29,7 +29,7 @@ fn any_arrays(generator: &mut Generator) -> Board {
 pub fn any_state(generator: &mut Generator) -> Board {
     let mut board = any_arrays(generator);
     let n = generator.below(MOST_PICKS + 1);
-    let most_sections = 1 + generator.below(MOST_SECTIONS) as u8;
+    let most_sections = 1 + generator.below(MOST_SECTIONS);
     board.store(n, most_sections, any_number(generator));
     board
 }
@@ -48,16 +48,19 @@ pub fn spoiled_state(generator: &mut Generator) -> Board {
     letters[generator.below(MOST_PICKS)] = generator.below(256) as u8;
     if generator.below(4) == 0 {
         let (n, longest) = (generator.below(MOST_PICKS + 1), any_number(generator));
-        board.store(n, board.most_sections() as u8, longest);
+        board.store(n, board.most_sections(), longest);
     }
     board
 }
 
-/// Stores an n and a K, each within its limits or not, n often just beside its limit.
+/// Stores an n and a K, each within its limits or not, n often just beside its limit,
+/// K often a good one modulo 256.
 pub fn with_any_numbers(mut board: Board, generator: &mut Generator) -> Board {
     let beside = MOST_PICKS - 1 + generator.below(3);
     let n = [board.n(), any_number(generator), beside][generator.below(3)];
-    let most_sections = [generator.below(12), generator.below(256)][generator.below(2)] as u8;
+    let modulo = (any_number(generator) / 256 * 256).saturating_add(generator.below(12));
+    let numbers = [generator.below(12), any_number(generator), modulo];
+    let most_sections = numbers[generator.below(numbers.len())];
     board.store(n, most_sections, board.longest());
     board
 }

@@ -1,8 +1,10 @@
 //! The draft program as a process of its own.
 
-use std::env;
+#[path = "executable.rs"]
+mod executable;
+
+use executable::program;
 use std::io::{BufRead, BufReader, Write};
-use std::path::PathBuf;
 use std::process::{Child, ChildStdin, ChildStdout, Command, Stdio};
 use std::sync::mpsc::{channel, Receiver, RecvTimeoutError, Sender};
 use std::thread::{sleep, spawn};
@@ -10,16 +12,6 @@ use std::time::{Duration, Instant};
 
 /// The longest that a line, or the end of the program, may take.
 const LIMIT: Duration = Duration::from_secs(10);
-
-/// The executable: the path in `DRAFT_PROGRAM`, or else `../target/bin/draft`.
-fn program() -> PathBuf {
-    let path = env::var_os("DRAFT_PROGRAM")
-        .filter(|path| !path.is_empty())
-        .map_or_else(|| PathBuf::from("../target/bin/draft"), PathBuf::from);
-    let there = path.is_file();
-    assert!(there, "no {}: run `rt check draft`", path.display());
-    path
-}
 
 /// A running draft program and the lines that it prints.
 pub struct Process {
@@ -30,7 +22,12 @@ pub struct Process {
 impl Process {
     /// Runs the program on this standard input.
     pub fn on(input: Stdio) -> Process {
-        let mut child = Command::new(program())
+        Process::of(Command::new(program()), input)
+    }
+
+    /// Runs the command, which is the program or calls it, on this standard input.
+    pub fn of(mut command: Command, input: Stdio) -> Process {
+        let mut child = command
             .stdin(input)
             .stdout(Stdio::piped())
             .spawn()

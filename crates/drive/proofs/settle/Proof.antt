@@ -1,49 +1,48 @@
 use borrow.Author.Needs.{needs}
 use mathlib.Core.Path.{refl}
 use native.Mathlib.Omega.{arith}
-use Rattle.drive.specs.Parts.{not-both}
+use Rattle.promises.specs.Taking.{true-false}
 use Rattle.drive.proofs.settle.Statement.{statement}
 use Rattle.drive.proofs.settle.Tie as tie
 
 mul-tell : tie.Need-mul-tell
 mul-tell c =
-    let t = c .before .before .before .before .before in
+    let t = c .before .before .before .before in
     record { fits = omega (arith, t .before .before .pre (t .if1 .taken) .told) }
 
 tell-requires : tie.Need-tell-requires
 tell-requires c κs =
-    let t = c .before .before .before .before .before in
+    let t = c .before .before .before .before in
     t .before .before .pre (t .if1 .taken) .told
 
-add-t7 : tie.Need-add-t7
-add-t7 c =
-    let t = c .before .before .before .before .before .before .before .before .before in
+add-t10 : tie.Need-add-t10
+add-t10 c =
+    let t = c .before .before .before .before .before .before .before .before in
     record { fits = omega (arith, t .before .before .pre (t .if1 .taken) .told) }
 
 add-t11 : tie.Need-add-t11
 add-t11 c =
-    let t = c .before .before .before .before .before .before .before .before .before .before .before in
+    let t = c .before .before .before .before .before .before .before .before .before .before in
     record { fits = t .before .before .pre (t .if1 .taken) .listed }
 
 add-t12 : tie.Need-add-t12
 add-t12 c =
-    let t = c .before .before .before .before .before .before .before .before .before .before .before .before .before in
+    let t = c .before .before .before .before .before .before .before .before .before .before .before .before in
     record { fits = t .before .before .pre (t .if1 .taken) .written }
 
 returns : tie.Need-returns
 returns c =
     let p = c .before .before .before .before .before .before .before in
-    let k = p .before .before .before .before .before in
     record {
-      stores = λ _. record { on = refl; n = refl; k = omega (arith, k .wide .ensures); longest = refl; told = p .tell .ensures };
-      keeps = λ z. not-both _ (k .before .if1 .taken) z;
+      stores = λ _. record { on = refl; n = refl; k = refl; longest = refl; told = p .tell .ensures };
+      keeps = λ z. absurd (true-false (p .before .before .before .before .before .if1 .taken) z);
     }
 
 returns-2 : tie.Need-returns-2
 returns-2 c = record {
-  stores = λ z. not-both _ z (c .if1 .left);
+  stores = λ z. absurd (true-false z (c .if1 .left));
   keeps = λ _. record { off = refl; state = refl; told = refl };
 }
 
 pub settle-spec : {M : Type 1} → statement M
-settle-spec = tie.close (tie.spec (λ c κs. search needs) mul-tell tell-requires add-t7 add-t11 add-t12 (λ c. search needs) returns returns-2)
+settle-spec = tie.close (tie.spec mul-tell tell-requires add-t10 add-t11 add-t12 (λ c. search needs) returns returns-2)

@@ -14,6 +14,12 @@ abbrev μ-loop : tie.MeasureT-loop
 μ-loop letters₀ radius₀ heads₀ lends₀ next₀ prev₀ rows₀ gathered₀ k longest₀ n₀ letters radius heads lends next prev rows gathered longest n =
     mostPicks + 1 - n
 
+loop-less : tie.Need-loop-less Inv-loop μ-loop
+loop-less c =
+    let t = c .before .before in
+    let l = t .before .before .before .before .before .before .before .before .before .before .before .before .before in
+    omega (arith, t .take-pick .ensures (c .before .if1 .left), l .loop-test .taken)
+
 pub take-picks-spec : {M : Type 1} → statement M
 take-picks-spec =
     tie.close
@@ -26,10 +32,7 @@ take-picks-spec =
     (λ c. search needs)
     (λ c. tt)
     (λ c κs. search needs)
-    (λ c. search needs)
-    (λ c. search needs)
     (λ c. tt)
-    (λ c. omega arith)
-    (λ c. omega arith)
+    loop-less
     (λ c. tt)
     (λ c. tt))

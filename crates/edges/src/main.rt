@@ -1,0 +1,9 @@
+// Document 01's drafts at the edges, run through the calls with the state by value. What it prints is held to the file stdout.
+mod drafts;
+mod limits;
+mod text;
+
+fn main() {
+    drafts::run();
+    limits::run();
+}

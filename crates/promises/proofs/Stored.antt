@@ -1,0 +1,73 @@
+-- The state after a run: every row word and every gathered word by its definition, and the whole of it a function of the book.
+use mathlib.Core.Path.{_≡_, refl, sym, ap, _∙_}
+use mathlib.Core.Bool.{cond}
+use mathlib.Core.List.{List, [], _∷_, _++_}
+use Prim.Native.Nat.{ℕ}
+use lib.ListN.{length}
+use Rattle.promises.specs.declared.Draft.{Draft}
+use Rattle.promises.specs.declared.Started.{Started}
+use Rattle.promises.specs.declared.Fed.{Fed}
+use Rattle.promises.specs.Refusals.{startRefusal, feedRefusal}
+use Rattle.promises.specs.Book.{Book, book, blank, startTaken, feedTaken, write, writeAll}
+use Rattle.promises.specs.Taking.{Case, taken, left, start-cases}
+use Rattle.promises.specs.State.{withPick, withPicks, fresh, stateOfBook}
+use Rattle.promises.specs.Holds.{Holds}
+use Rattle.promises.specs.Promises.{StartPromise, FeedPromise}
+use Rattle.promises.specs.Runs.{Made, started, fed, splitted, longestAsked, maskAsked, radiusAsked, nextAsked, folded, callOf, calls, Meets, leaves, Run, last}
+use Rattle.promises.specs.Demands.{WordsHold, StateOfBook}
+use Rattle.promises.proofs.Keeping.{feed-taken, keep, promise, opened, opens, whole}
+
+pub words-hold : WordsHold
+words-hold d K r ms o = let g = whole o .arrays .gathers in record { rows = g .rows; gathered = g .all }
+
+-- one pick more at the end
+picks-more : (d : Draft) (picks : List ℕ) (pick : ℕ) → withPicks d (picks ++ pick ∷ []) ≡ withPick (withPicks d picks) pick
+unfolding withPicks
+picks-more d [] pick = refl
+picks-more d (x ∷ picks) pick = picks-more (withPick d x) picks pick
+
+-- One call: d is the state of b
+
+module _ {d : Draft} {b : Book} (h : Holds d b) (e : d ≡ stateOfBook b) where
+  start-state : {K : ℕ} {r : Started} → StartPromise d K r → r .state ≡ stateOfBook (cond (startTaken K) (book K []) b)
+  unfolding withPicks
+  start-state {K} {r} p = go (start-cases K)
+    where
+      go : Case (startTaken K) (startRefusal K) → r .state ≡ stateOfBook (cond (startTaken K) (book K []) b)
+      go (taken t z) = rw t (p .begins z)
+      go (left t z) = rw t (p .refuses z ∙ e)
+
+  feed-state : {pick : ℕ} {before : List ℕ} {r : Fed} {after : List ℕ} → FeedPromise d pick before r after
+      → r .state ≡ stateOfBook (cond (feedTaken b pick (length before)) (book (b .K) (b .row ++ pick ∷ [])) b)
+  feed-state {pick} {before} {r} p = go (feed-taken h pick (length before))
+    where
+      number : feedRefusal (d .n) (d .k) pick (length before) ≡ feedRefusal (length (b .row)) (b .K) pick (length before)
+      number = rw (h .picks, h .sections)
+
+      go : Case (feedTaken b pick (length before)) (feedRefusal (length (b .row)) (b .K) pick (length before))
+          → r .state ≡ stateOfBook (cond (feedTaken b pick (length before)) (book (b .K) (b .row ++ pick ∷ [])) b)
+      go (taken t z) =
+          rw t (p .computes (number ∙ z) .stores ∙ ap (λ s. withPick s pick) e ∙ sym (picks-more (fresh (b .K)) (b .row) pick))
+      go (left t z) = rw t (p .refuses (λ q. z (sym number ∙ q)) .1 ∙ e)
+
+  call-state : (m : Made) → Meets d m → leaves d m ≡ stateOfBook (write b (callOf m))
+  unfolding Meets leaves callOf write
+  call-state (started K r) p = start-state p
+  call-state (fed pick before r after) p = feed-state p
+  call-state (splitted i k before r after) p = e
+  call-state (longestAsked r) p = e
+  call-state (maskAsked i r) p = e
+  call-state (radiusAsked c r) p = e
+  call-state (nextAsked c r) p = e
+  call-state (folded i k before r after) p = e
+
+-- The calls, one after the other
+
+run-state : {d : Draft} {b : Book} (ms : List Made) → Run d ms → Holds d b → d ≡ stateOfBook b → last d ms ≡ stateOfBook (writeAll b (calls ms))
+unfolding Run last writeAll
+run-state [] t h e = e
+run-state (m ∷ ms) t h e = run-state ms (t .1) (keep h m (t .0)) (call-state h e m (t .0))
+
+pub state-of-book : StateOfBook
+unfolding Run last leaves writeAll callOf write withPicks
+state-of-book d K r ms o = run-state ms (o .run .1) (opened o blank) (rw (opens o .0) (promise o .begins (opens o .1)))

@@ -1,0 +1,109 @@
+-- The drafts marked P in document 01: one table, each row a draft, a question and document 01's answer. All have K = 8.
+use mathlib.Core.Path.{_≡_}
+use mathlib.Core.List.{List, [], _∷_, map}
+use mathlib.Core.Option.{Option, some, none}
+use Prim.Native.Nat.{ℕ, suc, _-_}
+use Prim.Native.Char.{code}
+use Prim.Native.String as Text
+use Prim.Native.String.{String}
+use lib.ListN.{length, take, getD}
+use Rattle.words.specs.Definitions.{mostSections, mostVisits}
+use Rattle.promises.specs.Answers.{gave, refused, Reply, reply, filled}
+use Rattle.promises.specs.Book as calls
+use Rattle.promises.specs.Book.{Book, book, Call}
+use Rattle.promises.specs.Replies.{fedMask, replyTo}
+
+pub data Question : Type 0 where
+  mask visits moved : Question
+  endsIn : (k : ℕ) → Question
+  radiusAt : (c : ℕ) → Question
+
+-- numbers, or none where there is no split
+pub record Row : Type 0 where
+  pub letters : List ℕ
+  pub question : Question
+  pub answer : Option (List ℕ)
+
+-- a text's letters, as bytes
+bytes : String → List ℕ
+bytes Text.[] = []
+bytes (Text._∷_ c s) = code c ∷ bytes s
+
+row : String → Question → Option (List ℕ) → Row
+unfolding bytes
+row t q a = record { letters = bytes t; question = q; answer = a }
+
+unfoldable pub table : List Row
+unfolding row
+table =
+    row "" mask (some (0 ∷ []))
+    ∷ row "" (endsIn 1) none
+    ∷ row "" (endsIn 2) none
+    ∷ row "" (endsIn 3) none
+    ∷ row "" (endsIn 4) none
+    ∷ row "" (endsIn 5) none
+    ∷ row "" (endsIn 6) none
+    ∷ row "" (endsIn 7) none
+    ∷ row "" (endsIn 8) none
+    ∷ row "A" mask (some (1 ∷ []))
+    ∷ row "A" visits (some (1 ∷ []))
+    ∷ row "AA" mask (some (3 ∷ []))
+    ∷ row "AAA" mask (some (7 ∷ []))
+    ∷ row "AAA" visits (some (3 ∷ 1 ∷ []))
+    ∷ row "AB" mask (some (2 ∷ []))
+    ∷ row "ABABAB" mask (some (42 ∷ []))
+    ∷ row "ABABAB" visits (some (5 ∷ 3 ∷ 1 ∷ []))
+    ∷ row "ABABABA" mask (some (85 ∷ []))
+    ∷ row "ABABABA" visits (some (7 ∷ 3 ∷ 1 ∷ []))
+    ∷ row "AAA" (endsIn 2) (some (1 ∷ 3 ∷ []))
+    ∷ row "ABACDDC" mask (some (122 ∷ []))
+    ∷ row "ABACDDC" (endsIn 2) (some (3 ∷ 7 ∷ []))
+    ∷ row "ABACDDC" moved (some (10 ∷ []))
+    ∷ row "AABACABAA" (radiusAt 10) (some (4 ∷ []))
+    ∷ row "AABACABAA" (radiusAt 11) (some (0 ∷ []))
+    ∷ row "AABACABAA" (radiusAt 3) (some (1 ∷ []))
+    ∷ []
+
+-- What a row says of the replies
+
+-- the visits are those of the last pick: the book before it, and the pick
+abbrev pub bookFor : List ℕ → Question → Book
+bookFor u mask = book mostSections u
+bookFor u visits = book mostSections (take (length u - 1) u)
+bookFor u moved = book mostSections u
+bookFor u (endsIn k) = book mostSections u
+bookFor u (radiusAt c) = book mostSections u
+
+abbrev pub lastPick : List ℕ → ℕ
+lastPick u = getD u (length u - 1) 0
+
+abbrev pub callFor : List ℕ → Question → (list : List ℕ) → Call
+callFor u mask list = calls.mask (length u)
+callFor u visits list = calls.feed (lastPick u) list
+callFor u moved list = calls.longest
+callFor u (endsIn k) list = calls.split (length u) k list
+callFor u (radiusAt c) list = calls.radius c
+
+-- how many entries are lent: 19 to a feed, k to a split
+abbrev pub entries : Question → ℕ
+entries mask = 0
+entries visits = mostVisits
+entries moved = 0
+entries (endsIn k) = k
+entries (radiusAt c) = 0
+
+-- the reply that has the answer: moved is the centre given, minus 1; no split is number 9, and the list as it was
+abbrev pub replyWith : List ℕ → Question → Option (List ℕ) → (list : List ℕ) → Reply
+replyWith u q none list = reply (refused 9) list
+replyWith u mask (some values) list = reply (gave values) []
+replyWith u visits (some lengths) list =
+    reply (gave (fedMask (bookFor u visits) (lastPick u) ∷ length lengths ∷ [])) (filled lengths list)
+replyWith u moved (some values) list = reply (gave (map suc values)) []
+replyWith u (endsIn k) (some ends) list = reply (gave (length ends ∷ [])) (filled ends list)
+replyWith u (radiusAt c) (some values) list = reply (gave values) []
+
+-- for any list of so many entries
+abbrev pub Right : Row → Type 0
+Right r = (list : List ℕ) → length list ≡ entries (r .question)
+    → replyTo (bookFor (r .letters) (r .question)) (callFor (r .letters) (r .question) list)
+    ≡ replyWith (r .letters) (r .question) (r .answer) list

@@ -1,0 +1,117 @@
+-- Document 01's two lists of refusals as propositions: each line under its words, and for each call the lines that it can meet, in the
+-- order in which they are tested: 7 first, then the input numbers in rising order but for 5, then 8, 9 or 10, then 5.
+use mathlib.Core.Path.{_≡_}
+use mathlib.Core.Logic.{_⊎_}
+use mathlib.Core.List.{List, [], _∷_, _++_}
+use Prim.Native.Nat.{ℕ, _+_, _*_, _<_}
+use lib.ListN.{length}
+use Rattle.words.specs.Definitions.{mostPicks, mostSections, mostVisits, firstLetter, lastLetter, word, centre, Ending, Split, Named, Rising}
+use Rattle.promises.specs.Record.{recordOf}
+use Rattle.promises.specs.Book.{Book, Call, start, feed, split, longest, mask, radius, next, fold}
+
+-- a line's number, and what it is to meet it
+pub record Line : Type 1 where
+  pub number : ℕ
+  pub Met : Type 0
+
+abbrev pub line : (number : ℕ) (Met : Type 0) → Line
+line number Met = record { number = number; Met = Met }
+
+-- number is that of the first line that is met
+unfoldable pub First : List Line → (number : ℕ) → Type 0
+First [] number = ⊥
+First (l ∷ ls) number = ((l .Met) × (number ≡ l .number)) ⊎ ((l .Met → ⊥) × First ls number)
+
+-- none of them is met
+unfoldable pub NoneMet : List Line → Type 0
+NoneMet [] = Unit
+NoneMet (l ∷ ls) = (l .Met → ⊥) × NoneMet ls
+
+-- x is outside low to high
+abbrev pub Outside : (low high x : ℕ) → Type 0
+Outside low high x = (x < low) ⊎ (high < x)
+
+-- Refused because of the input
+
+-- 1. "K outside 1 to 8, or k outside 1 to K": most is 8 or K
+abbrev pub outsideSections : (most k : ℕ) → Line
+outsideSections most k = line 1 (Outside 1 most k)
+
+-- 2. "Pick not A to Z, in feeding or in looking up a lift"
+abbrev pub noLetter : (pick : ℕ) → Line
+noLetter pick = line 2 (Outside firstLetter lastLetter pick)
+
+-- 3. "Visit list under 19 entries, or ends list under k entries": least is 19 or k
+abbrev pub shortList : (least entries : ℕ) → Line
+shortList least entries = line 3 (entries < least)
+
+-- 4. "Prefix above n, centre outside 1 to 2n+1, or s outside 1 to the number of ends"
+abbrev pub prefixAbove : (n i : ℕ) → Line
+prefixAbove n i = line 4 (n < i)
+
+abbrev pub centreOutside : (n c : ℕ) → Line
+centreOutside n c = line 4 (Outside 1 (2 * n + 1) c)
+
+abbrev pub noSuchEnd : (ends : List ℕ) (s : ℕ) → Line
+noSuchEnd ends s = line 4 (Outside 1 (length ends) s)
+
+-- 5. "Record longer than the lent output": the record is that of the split named
+abbrev pub recordLonger : (u : List ℕ) (i k : ℕ) (output : List ℕ) → Line
+recordLonger u i k output = line 5 ((ends : List ℕ) × Named (word u) i k ends × (length output < length (recordOf (word u) i ends)))
+
+-- 6. "Ends not rising strictly from above 0 to exactly the number of lent letters"
+abbrev pub endsNotRising : (letters ends : List ℕ) → Line
+endsNotRising letters ends = line 6 (Rising (length letters) 0 ends → ⊥)
+
+-- Refused because of the state
+
+-- 7. "Stored n above 2,048 or stored K outside 1 to 8"
+abbrev pub noDraft : (n K : ℕ) → Line
+noDraft n K = line 7 ((mostPicks < n) ⊎ Outside 1 mostSections K)
+
+-- 8. "Feeding with n = 2,048"
+abbrev pub full : (n : ℕ) → Line
+full n = line 8 (n ≡ mostPicks)
+
+-- 9. "No division of the prefix into k sections exists"
+abbrev pub noSplit : (u : List ℕ) (i k : ℕ) → Line
+noSplit u i k = line 9 ((ends : List ℕ) → Split (word u) i k ends → ⊥)
+
+-- 10. "The centre belongs to no ending, or to the empty one, when the next shorter is sought"
+abbrev pub noEnding : (u : List ℕ) (c : ℕ) → Line
+noEnding u c = line 10 ((len : ℕ) → 0 < len → Ending (word u) (length u) len → centre (length u) len ≡ c → ⊥)
+
+-- The lines that a call can meet
+
+-- by its arguments and the stored n and K: 7, 1, 2, 3, 4, 8. "Start doesn't look at it": at 7
+unfoldable pub listed : (n K : ℕ) → Call → List Line
+listed n K (start k) = outsideSections mostSections k ∷ []
+listed n K (feed pick visits) = noDraft n K ∷ noLetter pick ∷ shortList mostVisits (length visits) ∷ full n ∷ []
+listed n K (split i k ends) = noDraft n K ∷ outsideSections K k ∷ shortList k (length ends) ∷ prefixAbove n i ∷ []
+listed n K longest = noDraft n K ∷ []
+listed n K (mask i) = noDraft n K ∷ prefixAbove n i ∷ []
+listed n K (radius c) = noDraft n K ∷ centreOutside n c ∷ []
+listed n K (next c) = noDraft n K ∷ centreOutside n c ∷ []
+listed n K (fold i k output) = noDraft n K ∷ outsideSections K k ∷ prefixAbove n i ∷ []
+
+-- and by the letters u: 9, 10, 5
+unfoldable pub sought : (u : List ℕ) → Call → List Line
+sought u (start k) = []
+sought u (feed pick visits) = []
+sought u (split i k ends) = noSplit u i k ∷ []
+sought u longest = []
+sought u (mask i) = []
+sought u (radius c) = []
+sought u (next c) = noEnding u c ∷ []
+sought u (fold i k output) = noSplit u i k ∷ recordLonger u i k output ∷ []
+
+-- all of them, on a draft with what stands in the book
+abbrev pub lines : Book → Call → List Line
+lines b call = listed (length (b .row)) (b .K) call ++ sought (b .row) call
+
+-- show and lift are given no state
+abbrev pub showLines : (letters ends : List ℕ) (s : ℕ) → List Line
+showLines letters ends s = noSuchEnd ends s ∷ endsNotRising letters ends ∷ []
+
+abbrev pub liftLines : (letter : ℕ) → List Line
+liftLines letter = noLetter letter ∷ []

@@ -1,0 +1,82 @@
+-- What document 01 says of the answer to each call that is accepted, in propositions of `words`.
+use mathlib.Core.Path.{_≡_}
+use mathlib.Core.Logic.{_↔_}
+use mathlib.Core.List.{List, [], _∷_, _++_}
+use Prim.Native.Nat.{ℕ, _+_, _-_, _≤_, _<_}
+use lib.ListN.{length, getD}
+use Rattle.words.specs.Definitions.{word, prefix, centre, Joined, Ending, LongestEnding, NextEnding, LongestAt, Visits, Named, bit}
+use Rattle.words.specs.Definitions.{radius as radiusOf}
+use Rattle.promises.specs.Answers.{gave, Reply, reply, filled}
+use Rattle.promises.specs.Record.{recordOf}
+use Rattle.promises.specs.Book.{Book, Call, start, feed, split, longest, mask, radius, next, fold, fedRow}
+
+-- "the answer is yes exactly when the prefix is k non-empty palindromes joined": u are the picks, i the prefix; bit k - 1 is for k
+pub record Yes (K : ℕ) (u : List ℕ) (i m : ℕ) : Type 0 where
+  pub exactly : (k : ℕ) → 1 ≤ k → k ≤ K → (bit m (k - 1) ≡ 1) ↔ Joined k (prefix (word u) i)
+  pub past : (k : ℕ) → K < k → bit m (k - 1) ≡ 0
+
+-- "The answer is either the mask, with the count of visits": u is the row with the pick
+pub record FeedSays (K : ℕ) (u list : List ℕ) (r : Reply) : Type 0 where
+  pub m : ℕ
+  pub lengths : List ℕ
+  pub mask : Yes K u (length u) m
+  pub visited : Visits (word u) (length u) lengths
+  pub is : r ≡ reply (gave (m ∷ length lengths ∷ [])) (filled lengths list)
+
+-- "Of all splits it is the one whose last section is longest .. It also gives the turn count, which is the number of sections."
+pub record SplitSays (u : List ℕ) (i k : ℕ) (list : List ℕ) (r : Reply) : Type 0 where
+  pub ends : List ℕ
+  pub named : Named (word u) i k ends
+  pub is : r ≡ reply (gave (k ∷ [])) (filled ends list)
+
+-- "Centre of the longest ending."
+pub record LongestSays (u : List ℕ) (r : Reply) : Type 0 where
+  pub L : ℕ
+  pub longest : LongestEnding (word u) (length u) L
+  pub is : r ≡ reply (gave (centre (length u) L ∷ [])) []
+
+-- "Mask of prefix i."
+pub record MaskSays (K : ℕ) (u : List ℕ) (i : ℕ) (r : Reply) : Type 0 where
+  pub m : ℕ
+  pub mask : Yes K u i m
+  pub is : r ≡ reply (gave (m ∷ [])) []
+
+-- "Radius of the longest mirrored stretch at a centre"
+pub record RadiusSays (u : List ℕ) (c : ℕ) (r : Reply) : Type 0 where
+  pub len : ℕ
+  pub longest : LongestAt (word u) (length u) c len
+  pub is : r ≡ reply (gave (radiusOf len ∷ [])) []
+
+-- "Centre of the next shorter ending after one given by its centre (any ending, leading or not; the one-pick ending leads to the empty one)"
+pub record NextSays (u : List ℕ) (c : ℕ) (r : Reply) : Type 0 where
+  pub len : ℕ
+  pub some : 0 < len
+  pub ending : Ending (word u) (length u) len
+  pub at : centre (length u) len ≡ c
+  pub shorter : ℕ
+  pub next : NextEnding (word u) (length u) len shorter
+  pub is : r ≡ reply (gave (centre (length u) shorter ∷ [])) []
+
+-- "Folded record of prefix i in k sections, by the split just named .. The answer is the record's count of bytes."
+pub record RecordSays (u : List ℕ) (i k : ℕ) (output : List ℕ) (r : Reply) : Type 0 where
+  pub ends : List ℕ
+  pub named : Named (word u) i k ends
+  pub is : r ≡ reply (gave (length (recordOf (word u) i ends) ∷ [])) (filled (recordOf (word u) i ends) output)
+
+unfoldable pub Says : Book → Call → Reply → Type 0
+Says b (start k) r = r ≡ reply (gave []) []
+Says b (feed pick visits) r = FeedSays (b .K) (fedRow b pick) visits r
+Says b (split i k ends) r = SplitSays (b .row) i k ends r
+Says b longest r = LongestSays (b .row) r
+Says b (mask i) r = MaskSays (b .K) (b .row) i r
+Says b (radius c) r = RadiusSays (b .row) c r
+Says b (next c) r = NextSays (b .row) c r
+Says b (fold i k output) r = RecordSays (b .row) i k output r
+
+-- "The section is handed back as that part of the lent letters itself": section s begins where the one before it ends, section 1 at 0
+pub record PartOf (letters ends : List ℕ) (s : ℕ) (part : List ℕ) : Type 0 where
+  pub front : List ℕ
+  pub back : List ℕ
+  pub is : letters ≡ front ++ part ++ back
+  pub from : length front ≡ getD (0 ∷ ends) (s - 1) 0
+  pub to : length front + length part ≡ getD (0 ∷ ends) s 0

@@ -1,0 +1,5 @@
+//! The calls that only read the state.
+
+pub mod folding;
+pub mod reading;
+pub mod split;

@@ -1,0 +1,76 @@
+//! Total access to the stored arrays: outside of an array 0 is read and nothing is
+//! stored. Beside it the two kinds of index.
+
+/// A centre, counted in half picks.
+#[derive(Clone, Copy)]
+pub struct Centre(pub usize);
+
+/// A place, counted in whole picks: place i stands after the first i picks.
+#[derive(Clone, Copy)]
+pub struct Place(pub usize);
+
+/// The most picks of a draft.
+pub const PICKS: usize = 2_048;
+
+/// The most sections asked for.
+pub const SECTIONS: usize = 8;
+
+/// The fewest entries of a visit list.
+pub const VISITS: usize = 19;
+
+/// The first letter of a pick.
+pub const FIRST_LETTER: u8 = 65;
+
+/// The last letter of a pick.
+pub const LAST_LETTER: u8 = 90;
+
+/// A letter for each place that a pick follows.
+pub type Letters = [u8; PICKS];
+
+/// A number of 16 bits for each place.
+pub type ByPlace = [u16; PICKS + 1];
+
+/// A number of 16 bits for each centre.
+pub type ByCentre = [u16; 2 * PICKS + 2];
+
+/// The entry at i.
+pub fn at<T: Copy + Default>(entries: &[T], i: usize) -> T {
+    entries.get(i).copied().unwrap_or_default()
+}
+
+/// Stores the entry at i.
+pub fn store<T>(entries: &mut [T], i: usize, value: T) {
+    if let Some(entry) = entries.get_mut(i) {
+        *entry = value;
+    }
+}
+
+/// The number at a centre.
+pub fn at_centre(array: &ByCentre, c: Centre) -> usize {
+    usize::from(at(array, c.0))
+}
+
+/// Stores a number, which fits 16 bits, at a centre.
+pub fn store_at_centre(array: &mut ByCentre, c: Centre, number: usize) {
+    store(array, c.0, number as u16);
+}
+
+/// The word at a place.
+pub fn at_place(array: &ByPlace, i: Place) -> u16 {
+    at(array, i.0)
+}
+
+/// Stores a word at a place.
+pub fn store_at_place(array: &mut ByPlace, i: Place, word: u16) {
+    store(array, i.0, word);
+}
+
+/// The letter of the pick after place i.
+pub fn letter_after(letters: &Letters, i: Place) -> u8 {
+    at(letters, i.0)
+}
+
+/// Stores the letter of the pick after place i.
+pub fn store_letter(letters: &mut Letters, i: Place, letter: u8) {
+    store(letters, i.0, letter);
+}

@@ -1,0 +1,40 @@
+//! The engine's part of append: the new place's row word, from the words gathered at
+//! the visited places.
+
+use super::visits::visit_all;
+use crate::cells::{store_at_place, Centre, Place};
+use crate::state::State;
+
+/// The row word of the new place, and how many places were visited for it.
+pub struct NewRow {
+    pub row: u16,
+    pub count: usize,
+}
+
+/// The length of the longest ending, whose centre is s; brought into 0 to n.
+fn longest_length(n: usize, s: Centre) -> usize {
+    (2 * n + 1).saturating_sub(s.0).min(n)
+}
+
+/// The first number that is no row word under k.
+fn row_end(k: usize) -> usize {
+    2 << k
+}
+
+/// The word moved up one bit, bits above k dropped.
+fn raised(word: u16, k: usize) -> u16 {
+    (usize::from(word) * 2 % row_end(k)) as u16
+}
+
+/// Prefix n, whose longest ending has the centre `longest`.
+pub fn step(state: &mut State, visits: &mut [u16], longest: Centre) -> NewRow {
+    let n = Place(state.n);
+    let seen = visit_all(state, visits, longest_length(state.n, longest));
+    let row = raised(seen.union, state.k);
+    store_at_place(state.rows, n, row);
+    store_at_place(state.gathered, n, row);
+    NewRow {
+        row,
+        count: seen.count,
+    }
+}

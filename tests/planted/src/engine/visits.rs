@@ -1,0 +1,67 @@
+//! Section 4, append, lines 3 to 9: the walk over the leading endings.
+
+use crate::cells::{at_centre, at_place, store, store_at_place, Centre, Place};
+use crate::state::State;
+
+/// The centre of the ending of len picks, of n.
+fn centre_of(n: usize, len: usize) -> Centre {
+    Centre((n + 1).saturating_sub(len) + n)
+}
+
+/// The least period of the ending of length len: the next centre less its own, brought
+/// into 1 to len.
+fn period_of(state: &State, len: usize) -> usize {
+    let c = centre_of(state.n, len);
+    let after = at_centre(state.next, c);
+    after.saturating_sub(c.0).min(len).max(1)
+}
+
+/// The length of the next shorter leading ending.
+fn next_leading(len: usize, p: usize) -> usize {
+    (p + len % p).min(len.saturating_sub(p))
+}
+
+/// The gathered word of the place before a leading ending, and the length of the next.
+struct Mended {
+    word: u16,
+    next: usize,
+}
+
+/// A visit: the gathered word is the own row word where three periods do not fit, else
+/// one row word is joined to it.
+fn visit(state: &mut State, len: usize) -> Mended {
+    let n = state.n;
+    let p = period_of(state, len);
+    let d = next_leading(len, p);
+    let i = Place(n.saturating_sub(len));
+    if len < 3 * p {
+        let own = at_place(state.rows, i);
+        store_at_place(state.gathered, i, own);
+        return Mended { word: own, next: d };
+    }
+    let j = Place(n.saturating_sub(d).saturating_sub(p));
+    let word = at_place(state.gathered, i) | at_place(state.rows, j);
+    store_at_place(state.gathered, i, word);
+    Mended { word, next: d }
+}
+
+/// The union of the visited places' gathered words, and how many they are.
+pub struct Visited {
+    pub union: u16,
+    pub count: usize,
+}
+
+/// The visits, from the longest ending on; their lengths go to the front of the list.
+pub fn visit_all(state: &mut State, visits: &mut [u16], longest: usize) -> Visited {
+    let mut union = 0;
+    let mut count = 0;
+    let mut len = longest;
+    while 0 < len {
+        let mended = visit(state, len);
+        union |= mended.word;
+        store(visits, count, len as u16);
+        count += 1;
+        len = mended.next;
+    }
+    Visited { union, count }
+}

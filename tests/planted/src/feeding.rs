@@ -1,0 +1,4 @@
+//! Start and feed.
+
+pub mod feed;
+pub mod start;

@@ -1,0 +1,110 @@
+//! A copy of the proved board in Rust, in which faults are planted.
+//!
+//! It has the C functions of the static library that `rt staticlib drive` writes, and
+//! behaves as that does on any stored bytes. Each module is the copy of the crate of
+//! its name; `state` holds the declarations of `promises`, and `scripts` what `drive`
+//! does. The program `draft` beside it is the copy of `crates/draft`.
+
+pub mod asking;
+pub mod board;
+pub mod cells;
+pub mod engine;
+pub mod feeding;
+pub mod iterator;
+pub mod record;
+pub mod refusals;
+pub mod scripts;
+pub mod splitting;
+pub mod state;
+
+use cells::{store, ByCentre, ByPlace, Centre, Letters};
+use scripts::Lent;
+use state::State;
+use std::slice::{from_raw_parts, from_raw_parts_mut};
+
+/// The calls of the script, one after the other; gives their number.
+///
+/// # Safety
+///
+/// Each pointer is that of a slice of the length beside it, and none overlaps another.
+#[no_mangle]
+pub unsafe extern "C" fn drive(
+    letters: &mut Letters,
+    radius: &mut ByCentre,
+    heads: &mut ByPlace,
+    lends: &mut ByCentre,
+    next: &mut ByCentre,
+    prev: &mut ByCentre,
+    rows: &mut ByPlace,
+    gathered: &mut ByPlace,
+    numbers: &mut [usize; 3],
+    script: *const u8,
+    script_len: usize,
+    lists: *mut u16,
+    lists_len: usize,
+    bytes: *mut u8,
+    bytes_len: usize,
+    answers: *mut usize,
+    answers_len: usize,
+) -> usize {
+    let state = State {
+        n: numbers[0],
+        k: numbers[1],
+        longest: Centre(numbers[2]),
+        letters,
+        radius,
+        heads,
+        lends,
+        next,
+        prev,
+        rows,
+        gathered,
+    };
+    let lent = Lent {
+        script: from_raw_parts(script, script_len),
+        lists: from_raw_parts_mut(lists, lists_len),
+        bytes: from_raw_parts_mut(bytes, bytes_len),
+        answers: from_raw_parts_mut(answers, answers_len),
+    };
+    scripts::run(state, lent, numbers)
+}
+
+/// Section s of the letters, as far as it fits the part; the answer is the companion's
+/// number and the section's length.
+///
+/// # Safety
+///
+/// Each pointer is that of a slice of the length beside it, and none overlaps another.
+#[no_mangle]
+pub unsafe extern "C" fn drive_show(
+    letters: *const u8,
+    letters_len: usize,
+    ends: *const u16,
+    ends_len: usize,
+    s: usize,
+    part: *mut u8,
+    part_len: usize,
+    answer: &mut [usize; 2],
+) -> usize {
+    let letters = from_raw_parts(letters, letters_len);
+    let ends = from_raw_parts(ends, ends_len);
+    let part = from_raw_parts_mut(part, part_len);
+    let number = board::show::show_number(letters, ends, s);
+    let section = board::show::show(letters, ends, s);
+    *answer = [usize::from(number), section.len()];
+    for (j, &letter) in section.iter().enumerate() {
+        store(part, j, letter);
+    }
+    0
+}
+
+/// The lift of a letter: the answer is 0 and the lift, or 1 and the number of the
+/// refusal.
+#[no_mangle]
+pub extern "C" fn drive_lift(letter: u8, answer: &mut [usize; 2]) -> usize {
+    *answer = match board::lift::lift(letter) {
+        Ok(lift) => [0, usize::from(lift)],
+        Err(number) => [1, usize::from(number)],
+    };
+    0
+}

@@ -1,0 +1,117 @@
+//! The numbers of the refusals: each line of document 01's lists, and for each call the
+//! first that it meets. 0 is none. Number 6 stands with show; 9, 10 and 5 come after a
+//! search, with the calls that make it.
+
+use crate::cells::{Centre, Place, FIRST_LETTER, LAST_LETTER, PICKS, SECTIONS, VISITS};
+use crate::state::{Answer, State};
+
+/// The number where its line is met, else 0.
+fn line(number: u8, met: bool) -> u8 {
+    if met {
+        number
+    } else {
+        0
+    }
+}
+
+/// 1: k outside 1 to most.
+fn line1(most: usize, k: usize) -> u8 {
+    line(1, k < 1 || most < k)
+}
+
+/// 2: a byte that is not A to Z.
+fn line2(pick: u8) -> u8 {
+    line(2, pick < FIRST_LETTER || LAST_LETTER < pick)
+}
+
+/// 3: a list that is too short.
+fn line3(least: usize, entries: usize) -> u8 {
+    line(3, entries < least)
+}
+
+/// 4: x outside low to high.
+pub fn line4(low: usize, high: usize, x: usize) -> u8 {
+    line(4, x < low || high < x)
+}
+
+/// 7: a stored n or K that no draft has.
+fn line7(n: usize, most: usize) -> u8 {
+    line(7, PICKS < n || most < 1 || SECTIONS < most)
+}
+
+/// 8: no room for a pick.
+fn line8(n: usize) -> u8 {
+    line(8, PICKS <= n)
+}
+
+/// The first of the numbers that is not 0, where there is one.
+pub fn first(numbers: &[u8]) -> Answer<()> {
+    match numbers.iter().find(|&&number| number > 0) {
+        Some(&number) => Err(number),
+        None => Ok(()),
+    }
+}
+
+/// Start, with K.
+pub fn start_refusal(sections: usize) -> Answer<()> {
+    first(&[line1(SECTIONS, sections)])
+}
+
+/// Feed.
+pub fn feed_refusal(state: &State, pick: u8, entries: usize) -> Answer<()> {
+    let stored = line7(state.n, state.k);
+    let letter = line2(pick);
+    let list = line3(VISITS, entries);
+    let room = line8(state.n);
+    first(&[stored, letter, list, room])
+}
+
+/// The mask of prefix i.
+pub fn mask_refusal(state: &State, i: Place) -> Answer<()> {
+    let stored = line7(state.n, state.k);
+    let prefix = line4(0, state.n, i.0);
+    first(&[stored, prefix])
+}
+
+/// The last centre of a draft of n picks; 0 where there is no such draft.
+fn last_centre(n: usize) -> usize {
+    if n <= PICKS {
+        2 * n + 1
+    } else {
+        0
+    }
+}
+
+/// The radius at a centre, and the next shorter ending after it.
+pub fn centre_refusal(state: &State, c: Centre) -> Answer<()> {
+    let stored = line7(state.n, state.k);
+    let centre = line4(1, last_centre(state.n), c.0);
+    first(&[stored, centre])
+}
+
+/// The centre of the longest ending.
+pub fn longest_refusal(state: &State) -> Answer<()> {
+    first(&[line7(state.n, state.k)])
+}
+
+/// Split.
+pub fn split_refusal(state: &State, i: Place, k: usize, entries: usize) -> Answer<()> {
+    let stored = line7(state.n, state.k);
+    let sections = line1(state.k, k);
+    let list = line3(k, entries);
+    let prefix = line4(0, state.n, i.0);
+    first(&[stored, sections, list, prefix])
+}
+
+/// The folded record.
+pub fn record_refusal(state: &State, i: Place, k: usize) -> Answer<()> {
+    let stored = line7(state.n, state.k);
+    let sections = line1(state.k, k);
+    let prefix = line4(0, state.n, i.0);
+    first(&[stored, sections, prefix])
+}
+
+/// The lift of a letter.
+pub fn lift_refusal(letter: u8) -> Answer<()> {
+    first(&[line2(letter)])
+}
