@@ -15,8 +15,14 @@ enum {
 
 // One pick more. 1 where n is below 2,048 and k is 1 to 8; else 0 and nothing is changed.
 // answer: the row word, the count of visits, the centre of the longest ending.
-size_t plain_append(uint8_t *letters, uint16_t *radius, uint16_t *heads, uint16_t *lends, uint16_t *next,
-                    uint16_t *prev, uint16_t *rows, uint16_t *gathered, uint16_t *visits, size_t n, uint8_t k,
-                    size_t longest, uint8_t pick, size_t *answer);
+typedef size_t append(uint8_t *letters, uint16_t *radius, uint16_t *heads, uint16_t *lends, uint16_t *next,
+                      uint16_t *prev, uint16_t *rows, uint16_t *gathered, uint16_t *visits, size_t n, uint8_t k,
+                      size_t longest, uint8_t pick, size_t *answer);
+
+// It divides at every visit.
+append plain_append;
+
+// It divides only where three periods fit.
+append undivided_append;
 
 #endif

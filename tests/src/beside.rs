@@ -4,7 +4,7 @@
 use crate::book::Book;
 use crate::calls::State;
 use crate::library::Board;
-use crate::scripted::{Call, Reply};
+use crate::scripted::{given, Call, Reply};
 use crate::MOST_PICKS;
 
 /// What each entry of a lent list holds before a call.
@@ -29,7 +29,7 @@ impl Beside {
         let book = Book::default();
         let mut beside = Beside { board, book };
         let reply = beside.make(Call::Start { most_sections });
-        assert_eq!(reply, Ok([0, 0]), "start with K {most_sections}");
+        assert_eq!(reply, given([]), "start with K {most_sections}");
         beside
     }
 

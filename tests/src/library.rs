@@ -1,8 +1,9 @@
 //! The proved board, by the C functions of its static library.
 //!
-//! Places are in whole picks, centres in half picks. Every array, list and buffer
-//! that is lent stands between guard entries; after each call they are looked at, so
-//! that a write outside is seen.
+//! Places are in whole picks, centres in half picks. All that is lent stands between
+//! guard entries: letters, the lanes by centre, those by place, and every list and
+//! buffer. They are looked at after each call, so that a write outside is seen, and so
+//! is a write to what calls only read.
 
 mod board;
 mod calling;
@@ -11,6 +12,6 @@ mod guarded;
 mod running;
 mod stateless;
 
-pub use board::{Board, CENTRES, PLACES};
+pub use board::{Board, CENTRES, GATHERED, HEADS, LENDS, NEXT, PLACES, PREV, RADIUS, ROWS};
 pub use running::{Lent, ANSWER_NUMBERS, UNSET};
 pub use stateless::{lift, show};

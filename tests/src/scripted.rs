@@ -20,9 +20,19 @@ pub enum Call {
     Record { prefix: u16, k: u8, bytes: u16 },
 }
 
-/// What a call replies: its two values, 0 where there is no such value, or the
-/// number it is refused with.
-pub type Reply = Answer<[usize; 2]>;
+/// The most values that a call gives.
+pub const VALUES: usize = 3;
+
+/// What a call replies: its values, 0 where there is no such value, or the number it
+/// is refused with.
+pub type Reply = Answer<[usize; VALUES]>;
+
+/// The reply that gives these values.
+pub fn given<const COUNT: usize>(values: [usize; COUNT]) -> Reply {
+    let mut all = [0; VALUES];
+    all[..COUNT].copy_from_slice(&values);
+    Ok(all)
+}
 
 impl Call {
     /// The call in a script: its number, a byte, and two numbers of 16 bits, the
@@ -67,11 +77,10 @@ impl Call {
     pub fn make(self, state: &mut State, list: &mut [u16], output: &mut [u8]) -> Reply {
         match self {
             Call::Start { most_sections } => {
-                calls::start(state, usize::from(most_sections)).map(|()| [0, 0])
+                calls::start(state, usize::from(most_sections)).and_then(|()| given([]))
             }
-            Call::Feed { pick, .. } => {
-                calls::feed(state, pick, list).map(|taken| [usize::from(taken.mask), taken.visits])
-            }
+            Call::Feed { pick, .. } => calls::feed(state, pick, list)
+                .and_then(|taken| given([taken.mask.into(), taken.visits])),
             Call::Split { prefix, k, .. } => {
                 one_value(calls::split(state, prefix.into(), k.into(), list))
             }
@@ -90,7 +99,7 @@ impl Call {
 
 /// The reply of a call that has one value.
 fn one_value(answer: Answer<usize>) -> Reply {
-    answer.map(|value| [value, 0])
+    answer.and_then(|value| given([value]))
 }
 
 /// The bytes of a script of these calls.

@@ -4,7 +4,7 @@
 use comparison::beside::{Beside, BYTE, ENTRY};
 use comparison::calls;
 use comparison::library::{lift, Board};
-use comparison::scripted::Call;
+use comparison::scripted::{given, Call};
 use comparison::{MOST_PICKS, MOST_SECTIONS, VISIT_ROOM};
 
 /// The mask and the visits that the last feed of a draft gives, and its mask.
@@ -13,7 +13,7 @@ fn assert_mask_and_visits(draft: &str, mask: usize, visits: &[u16]) {
     let mut run = Beside::fed(before, MOST_SECTIONS);
     let entries = VISIT_ROOM as u16;
     let (reply, list, _) = run.make_lent(Call::Feed { pick, entries });
-    assert_eq!(reply, Ok([mask, visits.len()]), "{draft}");
+    assert_eq!(reply, given([mask, visits.len()]), "{draft}");
     let mut expected = visits.to_vec();
     expected.resize(VISIT_ROOM, ENTRY);
     assert_eq!(list, expected, "{draft}");
@@ -25,7 +25,7 @@ fn assert_mask(draft: &str, mask: usize) {
     let mut run = Beside::fed(draft.as_bytes(), MOST_SECTIONS);
     let prefix = draft.len() as u16;
     let reply = run.make(Call::Mask { prefix });
-    assert_eq!(reply, Ok([mask, 0]), "{draft}");
+    assert_eq!(reply, given([mask]), "{draft}");
 }
 
 /// The ends of the whole draft in k, and the turn count.
@@ -33,7 +33,7 @@ fn assert_split(draft: &str, k: u8, ends: &[u16]) {
     let mut run = Beside::fed(draft.as_bytes(), MOST_SECTIONS);
     let (prefix, entries) = (draft.len() as u16, u16::from(k));
     let (reply, list, _) = run.make_lent(Call::Split { prefix, k, entries });
-    assert_eq!(reply, Ok([usize::from(k), 0]), "{draft} in {k}");
+    assert_eq!(reply, given([usize::from(k)]), "{draft} in {k}");
     assert_eq!(list, ends, "{draft} in {k}");
 }
 
@@ -43,7 +43,7 @@ fn assert_split(draft: &str, k: u8, ends: &[u16]) {
 fn prefix_0() {
     for draft in ["", "A", "ABACDDC"] {
         let mut run = Beside::fed(draft.as_bytes(), MOST_SECTIONS);
-        assert_eq!(run.make(Call::Mask { prefix: 0 }), Ok([0, 0]), "{draft}");
+        assert_eq!(run.make(Call::Mask { prefix: 0 }), given([0]), "{draft}");
         for k in 1..=8 {
             let entries = u16::from(k);
             let split = Call::Split {
@@ -81,7 +81,7 @@ fn abacddc() {
     assert_split("ABACDDC", 2, &[3, 7]);
     assert_eq!(Board::started(8).longest_centre(), Ok(1));
     let mut run = Beside::fed(b"ABACDDC", MOST_SECTIONS);
-    assert_eq!(run.make(Call::LongestCentre), Ok([1 + 10, 0]));
+    assert_eq!(run.make(Call::LongestCentre), given([1 + 10]));
 }
 
 /// "ABA splits in 1 and in 3, never in 2."
@@ -101,14 +101,14 @@ fn aabacabaa_by_centre() {
     let mut run = Beside::fed(b"AABACABAA", MOST_SECTIONS);
     for (centre, radius) in [(10, 4), (11, 0), (3, 1), (1, 0), (19, 0)] {
         let reply = run.make(Call::Radius { centre });
-        assert_eq!(reply, Ok([radius, 0]), "centre {centre}");
+        assert_eq!(reply, given([radius]), "centre {centre}");
     }
-    assert_eq!(run.make(Call::LongestCentre), Ok([10, 0]));
+    assert_eq!(run.make(Call::LongestCentre), given([10]));
     for centre in 1..=19 {
         let expected = match centre {
-            10 => Ok([17, 0]),
-            17 => Ok([18, 0]),
-            18 => Ok([19, 0]),
+            10 => given([17]),
+            17 => given([18]),
+            18 => given([19]),
             _ => Err(10),
         };
         let reply = run.make(Call::NextCentre { centre });
@@ -140,7 +140,7 @@ fn the_last_pick_the_visit_list_and_the_bytes_beside_the_letters() {
     assert_eq!(run.make(feed(b'B', 18)), Err(3));
     assert_eq!(run.make(feed(64, 19)), Err(2));
     assert_eq!(run.make(feed(91, 19)), Err(2));
-    assert_eq!(run.make(feed(b'B', 19)), Ok([254, 1]));
+    assert_eq!(run.make(feed(b'B', 19)), given([254, 1]));
     assert_eq!(run.board.n(), 2_048);
     assert_eq!(run.make(feed(b'B', 19)), Err(8));
     assert_eq!(run.board.n(), 2_048);

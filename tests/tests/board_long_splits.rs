@@ -5,7 +5,7 @@ use comparison::beside::{BYTE, ENTRY};
 use comparison::fast::Fast;
 use comparison::full_drafts;
 use comparison::library::{Board, Lent};
-use comparison::scripted::{Call, Reply};
+use comparison::scripted::{given, Call, Reply};
 use comparison::{plain, MOST_PICKS, MOST_SECTIONS};
 
 /// Entries of each ends list, more than the ends there can be.
@@ -25,7 +25,7 @@ fn split_by(fast: &Fast, i: usize, k: usize) -> (Reply, Vec<u16>) {
     for (entry, end) in list.iter_mut().zip(ends) {
         *entry = end as u16;
     }
-    (Ok([k, 0]), list)
+    (given([k]), list)
 }
 
 /// Splits every one of the prefixes for every k and compares. Gives the number of

@@ -7,7 +7,7 @@ mod bounded;
 mod ends;
 
 use bounded::make_within_bounds;
-use comparison::library::Board;
+use comparison::library::{Board, NEXT, RADIUS};
 use comparison::scripted::Call;
 use comparison::MOST_PICKS;
 use ends::{each_step_ends, Step};
@@ -33,8 +33,8 @@ fn many_visits(n: usize) -> Board {
     let mut board = Board::filled(|| 0);
     board.letters_mut().fill(65);
     board.store(n, 8, n + 2);
-    let [radius, _, _, next, ..] = board.arrays_mut();
-    radius[n + 2] = (n - (n + 2) / 2) as u16;
+    board.centre_lane_mut(RADIUS)[n + 2] = (n - (n + 2) / 2) as u16;
+    let next = board.centre_lane_mut(NEXT);
     for length in 1..=n + 1 {
         let centre = 2 * (n + 1) + 1 - length;
         next[centre] = (centre + length / 3 + 1) as u16;

@@ -4,7 +4,7 @@
 use comparison::beside::Beside;
 use comparison::library::Board;
 use comparison::samples::Generator;
-use comparison::scripted::Call;
+use comparison::scripted::{given, Call};
 use comparison::{MOST_PICKS, MOST_SECTIONS};
 
 fn feed(pick: u8, entries: u16) -> Call {
@@ -26,7 +26,7 @@ fn number_1_in_start() {
         let mut run = Beside::fed(b"ABA", 5);
         let reply = run.make(Call::Start { most_sections });
         let is_good = (1..=8).contains(&most_sections);
-        assert_eq!(reply, if is_good { Ok([0, 0]) } else { Err(1) });
+        assert_eq!(reply, if is_good { given([]) } else { Err(1) });
         let kept = if is_good { 0 } else { 3 };
         assert_eq!(run.board.n(), kept, "K {most_sections}");
     }
@@ -76,9 +76,9 @@ fn number_3_in_split() {
         let entries = u16::from(k);
         assert_eq!(run.make(split(8, k, 0)), Err(3));
         assert_eq!(run.make(split(8, k, entries - 1)), Err(3), "k {k}");
-        let given = Ok([usize::from(k), 0]);
-        assert_eq!(run.make(split(8, k, entries)), given);
-        assert_eq!(run.make(split(8, k, entries + 1)), given);
+        let turns = given([k.into()]);
+        assert_eq!(run.make(split(8, k, entries)), turns);
+        assert_eq!(run.make(split(8, k, entries + 1)), turns);
     }
 }
 
@@ -114,7 +114,7 @@ fn number_4_by_centre() {
         }
         for centre in [1, last] {
             let case = format!("centre {centre} of {} picks", draft.len());
-            assert_eq!(run.make(Call::Radius { centre }), Ok([0, 0]), "{case}");
+            assert_eq!(run.make(Call::Radius { centre }), given([0]), "{case}");
             assert_eq!(run.make(Call::NextCentre { centre }), Err(10), "{case}");
         }
     }
@@ -129,7 +129,7 @@ fn number_5() {
         for bytes in 0..=length + 1 {
             let expected = match bytes < length {
                 true => Err(5),
-                false => Ok([usize::from(length), 0]),
+                false => given([length.into()]),
             };
             let reply = run.make(record(prefix, k, bytes));
             assert_eq!(reply, expected, "{draft} in {k}, {bytes} bytes");

@@ -78,7 +78,7 @@ fn a_script_of_fewer_bytes() {
     }
 }
 
-/// Any room for answers: a call with fewer than three numbers left is not made.
+/// Any room for answers: a call with fewer than four numbers left is not made.
 #[test]
 fn fewer_answers() {
     let calls = some_calls_of_each_kind(&mut Generator(71), 30);
@@ -130,6 +130,20 @@ fn fewer_output_bytes() {
         let made = made_with(&calls, bytes, Call::output_bytes);
         let case = format!("{bytes} bytes");
         assert_made(&script(&calls), &mut lent, &calls, made, &case);
+    }
+}
+
+/// Any input, an empty one among them: no call reads it, so the script gives the same
+/// and goes on to its end.
+#[test]
+fn any_input() {
+    let calls = some_calls_of_each_kind(&mut Generator(75), 30);
+    let generator = &mut Generator(76);
+    for length in 0..=300 {
+        let mut lent = Lent::to(&calls, ENTRY, BYTE);
+        lent.input = (0..length).map(|_| generator.below(256) as u8).collect();
+        let case = format!("input {:?}", lent.input);
+        assert_made(&script(&calls), &mut lent, &calls, calls.len(), &case);
     }
 }
 

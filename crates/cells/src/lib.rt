@@ -2,8 +2,9 @@
 // Beside it what every access needs: the two kinds of index, and numbers made wider and narrower.
 ghost use mathlib.Core.Path.{_≡_};
 ghost use Prim.Native.Nat.{_-_, _<_, min, max};
-ghost use lib.ListN.{getD, set};
-ghost use lib.Seq.{sets};
+ghost use mathlib.Core.List.{[]};
+ghost use lib.ListN.{getD, set, length};
+ghost use Rattle.cells.specs.Lanes.{centreEntries, placeEntries, centreLanes, placeLanes, byCentre, centreStored, byPlace, placeStored};
 
 // A centre, counted in half picks (document 01, "Centres are counted in half picks and places in whole picks").
 pub struct Centre(pub usize);
@@ -25,17 +26,43 @@ pub const FIRST_LETTER: u8 = 65;
 
 pub const LAST_LETTER: u8 = 90;
 
-// The bytes between two fields and at the end of a line (document 01, "fields in a fixed order parted by commas, .. closed by byte 10").
-pub const COMMA: u8 = 44;
-
-pub const LINE_END: u8 = 10;
-
 // A letter for each place that a pick follows; a number for each place; a number for each centre.
 pub type Letters = [u8; PICKS];
 
 pub type ByPlace = [u16; PICKS + 1];
 
 pub type ByCentre = [u16; 2 * PICKS + 2];
+
+// The stored arrays by centre, and those by place, are the lanes of one array each: radii, lend lists, the list of the
+// endings' centres forward and backward; heads of the lend lists, row words, gathered words.
+pub const CENTRE_LANES: usize = 4;
+
+pub type Centres = [ByCentre; CENTRE_LANES];
+
+pub const RADIUS: usize = 0;
+
+pub const LENDS: usize = 1;
+
+pub const NEXT: usize = 2;
+
+pub const PREV: usize = 3;
+
+pub const PLACE_LANES: usize = 3;
+
+pub type Places = [ByPlace; PLACE_LANES];
+
+pub const HEADS: usize = 0;
+
+pub const ROWS: usize = 1;
+
+pub const GATHERED: usize = 2;
+
+// The numbers of the state: how many picks, K, the centre of the longest ending.
+pub struct Numbers {
+    pub n: usize,
+    pub k: usize,
+    pub longest: Centre,
+}
 
 // Numbers
 
@@ -108,47 +135,98 @@ pub fn store_byte(s: &mut [u8], i: usize, v: u8)
     }
 }
 
-// The bytes from a place on, as far as they fit.
-pub fn store_bytes(s: &mut [u8], at: usize, bytes: &[u8])
-    ensures { λ r. ⌜ now (s .exit) ≡ sets (now (s .entry)) at (now (bytes .entry)) ⌝ }
+// Single lanes: a function that only reads is lent the lanes that it reads
+
+pub fn at_centre(lane: &ByCentre, c: Centre) -> u16
+    ensures { λ r. ⌜ r ≡ getD (now (lane .entry)) (c .0) 0 ⌝ }
 {
-    let mut place = at;
-    let mut j = 0usize;
-    while j < bytes.len() {
-        if s.len() <= place {
-            return;
-        }
-        s[place] = bytes[j];
-        place = place + 1;
-        j = j + 1;
+    at(lane, c.0)
+}
+
+pub fn at_place(lane: &ByPlace, i: Place) -> u16
+    ensures { λ r. ⌜ r ≡ getD (now (lane .entry)) (i .0) 0 ⌝ }
+{
+    at(lane, i.0)
+}
+
+// Where the index is known to be within: no test.
+pub fn centre_entry(lane: &ByCentre, c: Centre) -> u16
+    requires { ⌜ c .0 < centreEntries ⌝ }
+    ensures { λ r. ⌜ r ≡ getD (now (lane .entry)) (c .0) 0 ⌝ }
+{
+    let i = c.0;
+    lane[i]
+}
+
+pub fn place_entry(lane: &ByPlace, i: Place) -> u16
+    requires { ⌜ i .0 < placeEntries ⌝ }
+    ensures { λ r. ⌜ r ≡ getD (now (lane .entry)) (i .0) 0 ⌝ }
+{
+    let j = i.0;
+    lane[j]
+}
+
+// Stores into a lane: a function that writes is lent all lanes
+
+fn store_centre_lane(lanes: &mut [ByCentre], lane: usize, c: usize, v: u16)
+    ensures { λ r. ⌜ now (lanes .exit) ≡ set (now (lanes .entry)) lane (set (getD (now (lanes .entry)) lane []) c v) ⌝ }
+{
+    if lane < lanes.len() {
+        store(&mut lanes[lane], c, v);
     }
 }
 
-// Arrays
-
-pub fn at_centre(a: &ByCentre, c: Centre) -> u16
-    ensures { λ r. ⌜ r ≡ getD (now (a .entry)) (c .0) 0 ⌝ }
+pub fn store_at_centre(centres: &mut Centres, lane: usize, c: Centre, v: u16)
+    ensures { λ r. ⌜ byCentre (now (centres .exit)) ≡ centreStored (byCentre (now (centres .entry))) lane (c .0) v ⌝ }
 {
-    at(a, c.0)
+    store_centre_lane(centres, lane, c.0, v);
 }
 
-pub fn store_at_centre(a: &mut ByCentre, c: Centre, v: u16)
-    ensures { λ r. ⌜ now (a .exit) ≡ set (now (a .entry)) (c .0) v ⌝ }
+fn store_place_lane(lanes: &mut [ByPlace], lane: usize, i: usize, v: u16)
+    ensures { λ r. ⌜ now (lanes .exit) ≡ set (now (lanes .entry)) lane (set (getD (now (lanes .entry)) lane []) i v) ⌝ }
 {
-    store(a, c.0, v);
+    if lane < lanes.len() {
+        store(&mut lanes[lane], i, v);
+    }
 }
 
-pub fn at_place(a: &ByPlace, i: Place) -> u16
-    ensures { λ r. ⌜ r ≡ getD (now (a .entry)) (i .0) 0 ⌝ }
+pub fn store_at_place(places: &mut Places, lane: usize, i: Place, v: u16)
+    ensures { λ r. ⌜ byPlace (now (places .exit)) ≡ placeStored (byPlace (now (places .entry))) lane (i .0) v ⌝ }
 {
-    at(a, i.0)
+    store_place_lane(places, lane, i.0, v);
 }
 
-pub fn store_at_place(a: &mut ByPlace, i: Place, v: u16)
-    ensures { λ r. ⌜ now (a .exit) ≡ set (now (a .entry)) (i .0) v ⌝ }
+// Where lane and index are known to be within: no test.
+
+fn put_centre_lane(lanes: &mut [ByCentre], lane: usize, c: usize, v: u16)
+    requires { ⌜ (lane < length (now lanes)) × (c < centreEntries) ⌝ }
+    ensures { λ r. ⌜ now (lanes .exit) ≡ set (now (lanes .entry)) lane (set (getD (now (lanes .entry)) lane []) c v) ⌝ }
 {
-    store(a, i.0, v);
+    lanes[lane][c] = v;
 }
+
+pub fn put_centre_entry(centres: &mut Centres, lane: usize, c: Centre, v: u16)
+    requires { ⌜ (lane < centreLanes) × (c .0 < centreEntries) ⌝ }
+    ensures { λ r. ⌜ byCentre (now (centres .exit)) ≡ centreStored (byCentre (now (centres .entry))) lane (c .0) v ⌝ }
+{
+    put_centre_lane(centres, lane, c.0, v);
+}
+
+fn put_place_lane(lanes: &mut [ByPlace], lane: usize, i: usize, v: u16)
+    requires { ⌜ (lane < length (now lanes)) × (i < placeEntries) ⌝ }
+    ensures { λ r. ⌜ now (lanes .exit) ≡ set (now (lanes .entry)) lane (set (getD (now (lanes .entry)) lane []) i v) ⌝ }
+{
+    lanes[lane][i] = v;
+}
+
+pub fn put_place_entry(places: &mut Places, lane: usize, i: Place, v: u16)
+    requires { ⌜ (lane < placeLanes) × (i .0 < placeEntries) ⌝ }
+    ensures { λ r. ⌜ byPlace (now (places .exit)) ≡ placeStored (byPlace (now (places .entry))) lane (i .0) v ⌝ }
+{
+    put_place_lane(places, lane, i.0, v);
+}
+
+// Letters
 
 // The letter of the pick after place i.
 pub fn letter_after(a: &Letters, i: Place) -> u8

@@ -10,29 +10,30 @@ use lib.Dec.{eqb}
 use lib.ListN.{length, take, drop, getD}
 use borrow.Author.Tests.{ne-eqb, le-leb}
 use Rattle.io.specs.Counts.{Counts}
+use Rattle.words.specs.Cases.{true-false}
 use Rattle.words.specs.Definitions.{mostSections, mostVisits, word}
 use Rattle.words.specs.Computed.{longest}
 use Rattle.words.specs.Laws.{longest-centre, longest-is}
 use Rattle.models.specs.Centres.{longest-centre-at}
+use Rattle.text.specs.Definitions.{lineEnd, digitZero}
 use Rattle.promises.specs.declared.Draft.{Draft}
 use Rattle.promises.specs.declared.Started.{Started}
 use Rattle.promises.specs.declared.FeedAnswer.{FeedAnswer}
 use Rattle.promises.specs.Answers.{Said, gave, refused, feedSays}
 use Rattle.promises.specs.Refusals.{between, startRefusal, feedRefusal}
-use Rattle.promises.specs.Record.{lineEnd, digitZero}
-use Rattle.promises.specs.Book.{Book, book, feed, write, fedRow}
-use Rattle.promises.specs.Replies.{feedReply, replyTo}
-use Rattle.promises.specs.Taking.{Case, taken, left, true-false, feed-cases, unless-zero, unless-not}
-use Rattle.promises.specs.Passing.{between-true}
-use Rattle.promises.specs.State.{withPick}
+use Rattle.promises.specs.Book.{Book, book, feed, lent, write, fedRow}
+use Rattle.promises.specs.Replies.{refusalOf, foundFor, replyTo}
+use Rattle.promises.specs.BookLaws.{Case, taken, left, feed-cases, unless-zero, unless-not}
+use Rattle.promises.specs.RefusalLaws.{between-true}
+use Rattle.promises.specs.State.{numbersOf, withPick}
 use Rattle.promises.specs.Holds.{Holds}
-use Rattle.promises.specs.Meeting.{start-holds}
+use Rattle.promises.specs.WritingLaws.{start-holds}
 use Rattle.promises.specs.Promises.{StartPromise, FeedPromise}
 use Rattle.promises.specs.Lent.{fedAs}
-use Rattle.feeding.specs.declared.feed.Step.{Step}
+use Rattle.calls.specs.declared.feed.Step.{Step}
 use Rattle.draft.specs.Output.{lineOf, lineFor, visitList, goesOn, picksOutput, goodFirstLine, firstLine, output}
 use Rattle.draft.specs.Lines.{headerLine, refusalLine}
-use Rattle.draft.specs.declared.answer.Turn.{Turn}
+use Rattle.draft.specs.declared.answer.Answered.{Answered}
 
 -- The line of an answer
 
@@ -46,12 +47,11 @@ isRefused (gave values) = false
 isRefused (refused number) = true
 
 -- n picks were there; line is what stands in its room afterwards
-pub record Tells (n : ℕ) (s : Step) (t : Turn) (line : List ℕ) : Type 0 where
+pub record Tells (n : ℕ) (s : Step) (t : Answered) (line : List ℕ) : Type 0 where
   pub over : t .over ≡ isRefused (feedSays (s .answer))
-  pub picks : t .n ≡ s .n
-  pub longest : t .longest .0 ≡ s .longest .0
+  pub numbers : t .numbers ≡ s .numbers
   pub counts : Counts (t .bytes) line
-  pub bytes : take (t .bytes) line ≡ lineOf n (s .n) (endingLength (s .n) (s .longest .0)) (feedSays (s .answer))
+  pub bytes : take (t .bytes) line ≡ lineOf n (s .numbers .n) (endingLength (s .numbers .n) (s .numbers .longest .0)) (feedSays (s .answer))
 
 -- One pick: d and e are the states before and after it
 
@@ -100,11 +100,11 @@ module _ {d e : Draft} {pick : ℕ} {before after : List ℕ} {answer : FeedAnsw
     -- what the book replies to a pick that it does not take
     refuses : (number : ℕ) → feedRefusal (length (b .row)) (b .K) pick (length visitList) ≡ number → number ≢ 0
         → replyTo b (feed pick visitList) .said ≡ refused number
-    unfolding replyTo feedReply
+    unfolding replyTo refusalOf lent foundFor
     refuses number z f = rw z (ap (λ r. r .said) (unless-not number visitList _ f))
 
     gives : feedRefusal (length (b .row)) (b .K) pick (length visitList) ≡ 0 → isRefused (replyTo b (feed pick visitList) .said) ≡ false
-    unfolding replyTo feedReply
+    unfolding replyTo refusalOf lent foundFor
     gives z = ap (λ r. isRefused (r .said)) (unless-zero _ visitList _ z)
 
     -- the length of the longest ending from its centre
@@ -134,11 +134,11 @@ module _ {d e : Draft} {pick : ℕ} {before after : List ℕ} {answer : FeedAnsw
         go (left t z) = rw t (ap isRefused (said ∙ refuses _ refl z))
 
   -- s is the step, t what is told of it, line its room
-  pub fills : (n : ℕ) (s : Step) (t : Turn) (line : List ℕ) → before ≡ visitList → d .n ≡ n → s .answer ≡ answer → s .n ≡ e .n
-      → s .longest .0 ≡ e .longest .0 → Tells n s t line → Fills d pick (t .over) e (take (t .bytes) line)
-  fills n s t line l q a m c h = record {
+  pub fills : (n : ℕ) (s : Step) (t : Answered) (line : List ℕ) → before ≡ visitList → d .n ≡ n → s .answer ≡ answer
+      → s .numbers ≡ numbersOf e → Tells n s t line → Fills d pick (t .over) e (take (t .bytes) line)
+  fills n s t line l q a m h = record {
     meaning = λ b g. record {
-      is = h .bytes ∙ rw (← q, a, m, c) (line-right g l);
+      is = h .bytes ∙ rw (← q, a, m) (line-right g l);
       goes = h .over ∙ ap (λ x. isRefused (feedSays x)) a ∙ goes-right g l;
       holds = held g l;
     };

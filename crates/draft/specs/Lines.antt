@@ -2,12 +2,12 @@
 -- the longest ending. Every line ends with byte 10. A refusal prints `refused,`, the number, a comma and the input byte's place".
 use mathlib.Core.List.{List, [], _∷_, _++_}
 use Prim.Native.Nat.{ℕ}
-use Rattle.promises.specs.Record.{comma, lineEnd, decimal}
+use Rattle.text.specs.Definitions.{comma, lineEnd, decimal}
 
 -- `picks,mask,visits,longest`
 unfoldable pub headerLine : List ℕ
 headerLine =
-    112 ∷ 105 ∷ 99 ∷ 107 ∷ 115 ∷ 44 ∷ 109 ∷ 97 ∷ 115 ∷ 107 ∷ 44 ∷ 118 ∷ 105 ∷ 115 ∷ 105 ∷ 116 ∷ 115 ∷ 44 ∷ 108 ∷ 111 ∷ 110 ∷ 103 ∷ 101 ∷ 115 ∷ 116
+    112 ∷ 105 ∷ 99 ∷ 107 ∷ 115 ∷ comma ∷ 109 ∷ 97 ∷ 115 ∷ 107 ∷ comma ∷ 118 ∷ 105 ∷ 115 ∷ 105 ∷ 116 ∷ 115 ∷ comma ∷ 108 ∷ 111 ∷ 110 ∷ 103 ∷ 101 ∷ 115 ∷ 116
     ∷ lineEnd ∷ []
 
 -- a number, and the byte that closes its field
@@ -21,7 +21,7 @@ pickLine picks mask visits longest = field picks comma ++ field mask comma ++ fi
 
 -- `refused,`
 abbrev pub refusedText : List ℕ
-refusedText = 114 ∷ 101 ∷ 102 ∷ 117 ∷ 115 ∷ 101 ∷ 100 ∷ 44 ∷ []
+refusedText = 114 ∷ 101 ∷ 102 ∷ 117 ∷ 115 ∷ 101 ∷ 100 ∷ comma ∷ []
 
 -- the line of a refusal
 unfoldable pub refusalLine : (number place : ℕ) → List ℕ

@@ -7,9 +7,9 @@ use lib.Dec.{eqb}
 use lib.ListN.{length, getD, drop, replicate}
 use Rattle.words.specs.Definitions.{mostSections, mostVisits, word}
 use Rattle.words.specs.Computed.{longest}
+use Rattle.text.specs.Definitions.{lineEnd, digitZero}
 use Rattle.promises.specs.Answers.{Said, gave, refused}
 use Rattle.promises.specs.Refusals.{between}
-use Rattle.promises.specs.Record.{lineEnd, digitZero}
 use Rattle.promises.specs.Book.{Book, book, feed, feedTaken, write, fedRow}
 use Rattle.promises.specs.Replies.{replyTo}
 use Rattle.draft.specs.Lines.{headerLine, pickLine, refusalLine}

@@ -4,29 +4,30 @@ ghost use Prim.Native.Nat.{_+_, _≤_};
 ghost use lib.ListN.{length, take};
 ghost use Rattle.io.specs.Counts.{Counts};
 ghost use Rattle.words.specs.Definitions.{mostPicks};
-ghost use Rattle.promises.specs.State.{draftOf};
+ghost use Rattle.cells.specs.Lanes.{byCentre, byPlace};
+ghost use Rattle.promises.specs.State.{draftIn};
 ghost use Rattle.draft.specs.Filling.{endingLength, Tells, Fills};
 ghost use Rattle.draft.specs.Putting.{room};
 use crate::line::pick_line;
 use crate::line::refusal_line;
-use cells::ByCentre;
-use cells::ByPlace;
+use calls::feed::Step;
+use calls::feed::feed;
 use cells::Centre;
+use cells::Centres;
 use cells::Letters;
+use cells::Numbers;
+use cells::Places;
 use cells::VISITS;
 use cells::minus;
-use feeding::feed::Step;
-use feeding::feed::feed;
 use promises::FeedAnswer;
 
 // The bytes of the first line.
 const FIRST_LINE: usize = 2;
 
 // What becomes of a pick: whether the run is over, the numbers of the state, and the count of its line's bytes.
-pub struct Turn {
+pub struct Answered {
     pub over: bool,
-    pub n: usize,
-    pub longest: Centre,
+    pub numbers: Numbers,
     pub bytes: usize,
 }
 
@@ -39,72 +40,49 @@ fn ending_length(n: usize, centre: Centre) -> usize
 }
 
 // The line of feed's answer to the pick after n others.
-fn tell(step: Step, n: usize, line: &mut [u8]) -> Turn
-    requires { ⌜ (n ≤ mostPicks) × (step .n ≤ mostPicks + 1) × (room ≤ length (now line)) ⌝ }
+fn tell(step: Step, n: usize, line: &mut [u8]) -> Answered
+    requires { ⌜ (n ≤ mostPicks) × (step .numbers .n ≤ mostPicks + 1) × (room ≤ length (now line)) ⌝ }
     ensures { λ r. ⌜ Tells n step r (now (line .exit)) ⌝ }
 {
     let answer = step.answer;
-    let longest = step.longest;
+    let numbers = step.numbers;
     match answer {
         FeedAnswer::Taken(mask, visits) => {
-            let ending = ending_length(step.n, longest);
-            let bytes = pick_line(step.n, mask, visits, ending, line);
-            Turn {
+            let ending = ending_length(numbers.n, numbers.longest);
+            let bytes = pick_line(numbers.n, mask, visits, ending, line);
+            Answered {
                 over: false,
-                n: step.n,
-                longest,
+                numbers,
                 bytes,
             }
         }
         FeedAnswer::Refused(number) => {
             let bytes = refusal_line(number, FIRST_LINE + n, line);
-            Turn {
+            Answered {
                 over: true,
-                n: step.n,
-                longest,
+                numbers,
                 bytes,
             }
         }
     }
 }
 
-// Feeds the pick after n others, and fills the front of the room with its line.
+// Feeds the pick after those that `held` tells, and fills the front of the room with its line.
 pub fn answer(
     letters: &mut Letters,
-    radius: &mut ByCentre,
-    heads: &mut ByPlace,
-    lends: &mut ByCentre,
-    next: &mut ByCentre,
-    prev: &mut ByCentre,
-    rows: &mut ByPlace,
-    gathered: &mut ByPlace,
+    centres: &mut Centres,
+    places: &mut Places,
     line: &mut [u8],
-    n: usize,
-    k: usize,
-    longest: Centre,
+    held: Numbers,
     pick: u8,
-) -> Turn
-    requires { ⌜ (n ≤ mostPicks) × (room ≤ length (now line)) ⌝ }
+) -> Answered
+    requires { ⌜ (held .n ≤ mostPicks) × (room ≤ length (now line)) ⌝ }
     ensures { λ r. ⌜ Counts (r .bytes) (now (line .exit)) ⌝ }
     ensures { λ r. ⌜ Fills
-        (draftOf n k (longest .0) (now (letters .entry)) (now (radius .entry)) (now (heads .entry)) (now (lends .entry)) (now (next .entry)) (now (prev .entry)) (now (rows .entry)) (now (gathered .entry))) pick
-        (r .over) (draftOf (r .n) k (r .longest .0) (now (letters .exit)) (now (radius .exit)) (now (heads .exit)) (now (lends .exit)) (now (next .exit)) (now (prev .exit)) (now (rows .exit)) (now (gathered .exit))) (take (r .bytes) (now (line .exit))) ⌝ }
+        (draftIn held (now (letters .entry)) (byCentre (now (centres .entry))) (byPlace (now (places .entry)))) pick
+        (r .over) (draftIn (r .numbers) (now (letters .exit)) (byCentre (now (centres .exit))) (byPlace (now (places .exit)))) (take (r .bytes) (now (line .exit))) ⌝ }
 {
     let mut visits = [0u16; VISITS];
-    let step = feed(
-        letters,
-        radius,
-        heads,
-        lends,
-        next,
-        prev,
-        rows,
-        gathered,
-        &mut visits,
-        n,
-        k,
-        longest,
-        pick,
-    );
-    tell(step, n, line)
+    let step = feed(letters, centres, places, &mut visits, held, pick);
+    tell(step, held.n, line)
 }

@@ -3,17 +3,16 @@ ghost use mathlib.Core.Path.{_≡_};
 ghost use mathlib.Core.Bool.{cond};
 ghost use Prim.Native.Nat.{_+_, _-_};
 ghost use Rattle.words.specs.Definitions.{mostSections};
+ghost use Rattle.text.specs.Definitions.{digitZero};
 ghost use Rattle.promises.specs.Refusals.{between};
-ghost use Rattle.promises.specs.Record.{digitZero};
-use cells::LINE_END;
 use libc::STDIN_FILENO;
+use text::DIGIT_ZERO;
+use text::LINE_END;
 
-// The bytes of the digits 0, 1 and 8.
-const ZERO: u8 = 48;
+// The bytes of the digits 1 and 8.
+const ONE: u8 = DIGIT_ZERO + 1;
 
-const ONE: u8 = 49;
-
-const EIGHT: u8 = 56;
+const EIGHT: u8 = DIGIT_ZERO + 8;
 
 // A byte of the input, or that there is none left.
 pub enum Input {
@@ -41,7 +40,7 @@ fn sections_of(digit: u8) -> u8
     if EIGHT < digit {
         return 0;
     }
-    digit - ZERO
+    digit - DIGIT_ZERO
 }
 
 // K, where the first line is one digit 1 to 8 followed by byte 10; else 0, and nothing is read past its first wrong byte.

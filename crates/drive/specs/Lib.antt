@@ -6,6 +6,6 @@ pub mod Opening
 pub mod Parts
 pub mod Told
 pub mod Requests
-pub mod Makes
-pub mod Turns
+pub mod Calling
+pub mod Advancing
 pub mod Onward

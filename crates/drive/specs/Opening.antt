@@ -11,8 +11,8 @@ use Rattle.promises.specs.Book.{Call, start, blank, bookOf}
 use Rattle.promises.specs.State.{stateOfBook}
 use Rattle.promises.specs.Replies.{replies}
 use Rattle.promises.specs.Demands.{Demand1Run, Demand2, Demand3, WordsRight}
-use Rattle.drive.specs.Script.{fromLists, fromBytes, asked}
-use Rattle.drive.specs.Drives.{encoded, Drives}
+use Rattle.drive.specs.Script.{Buffers, ofLists, ofBytes, listFrom, asked}
+use Rattle.drive.specs.Drives.{answerSize, encoded, Drives}
 
 -- of each call and its reply, one behind the other
 unfoldable pub together : (Call → Reply → List ℕ) → List Call → List Reply → List ℕ
@@ -21,23 +21,23 @@ together f (c ∷ cs) [] = []
 together f (c ∷ cs) (r ∷ rs) = f c r ++ together f cs rs
 
 -- cs are the script's calls: what they reply, and the state that they leave, is read from the plain book
-pub record Outcome (cs : List Call) (lists bytes answers : List ℕ) (count : ℕ) (e : Draft) (lists' bytes' answers' : List ℕ) : Type 0 where
+pub record Outcome (cs : List Call) (left : Buffers) (answers : List ℕ) (count : ℕ) (e : Draft) (lists' bytes' answers' : List ℕ) : Type 0 where
   pub counts : count ≡ length cs
   pub state : e ≡ stateOfBook (bookOf cs)
-  pub entries : lists' ≡ filled (together (λ c r. fromLists c (r .list)) cs (replies blank cs)) lists
-  pub output : bytes' ≡ filled (together (λ c r. fromBytes c (r .list)) cs (replies blank cs)) bytes
+  pub entries : lists' ≡ filled (together (λ c r. listFrom ofLists c (r .list)) cs (replies blank cs)) (left .lists)
+  pub output : bytes' ≡ filled (together (λ c r. listFrom ofBytes c (r .list)) cs (replies blank cs)) (left .bytes)
   pub told : answers' ≡ filled (together (λ c r. encoded (r .said)) cs (replies blank cs)) answers
 
 -- the script opens with a start, K from 1 to 8
-pub record Opens (script lists bytes answers : List ℕ) : Type 0 where
+pub record Opens (script : List ℕ) (left : Buffers) (answers : List ℕ) : Type 0 where
   pub K : ℕ
   pub least : 1 ≤ K
   pub most : K ≤ mostSections
   pub rest : List Call
-  pub is : asked (length answers / 3) script lists bytes ≡ start K ∷ rest
+  pub is : asked (length answers / answerSize) script left ≡ start K ∷ rest
 
 abbrev pub OpeningHolds : Type 0
-OpeningHolds = (d e : Draft) (script lists bytes answers : List ℕ) (count : ℕ) (lists' bytes' answers' : List ℕ)
-    → Opens script lists bytes answers → (h : Drives d script lists bytes answers count e lists' bytes' answers')
-    → Outcome (asked (length answers / 3) script lists bytes) lists bytes answers count e lists' bytes' answers'
+OpeningHolds = (d e : Draft) (script : List ℕ) (left : Buffers) (answers : List ℕ) (count : ℕ) (lists' bytes' answers' : List ℕ)
+    → Opens script left answers → (h : Drives d script left answers count e lists' bytes' answers')
+    → Outcome (asked (length answers / answerSize) script left) left answers count e lists' bytes' answers'
     × Demand1Run (h .made) × Demand2 d (h .made) × Demand3 d (h .made) × WordsRight d (h .made)

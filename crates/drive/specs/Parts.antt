@@ -35,7 +35,7 @@ lends-at {list} {part} {a} {k} {left} h l e = record {
   is = e ∙ rw (l .is, drop-drop k a list) (sym (append-assoc (take a list) left (drop (a + k) list)));
 }
 
--- three stores
+-- stores one after another
 pub lends-sets : (list left after : List ℕ) (a k : ℕ) → a + k ≤ length list → length left ≡ k → after ≡ sets list a left → LendsAt list a k left after
 lends-sets list left after a k h s e = record { fits = h; size = s; is = e ∙ rw (← s) (sets-eq left list a (omega arith)) }
 

@@ -1,111 +1,92 @@
 -- The next call as the code reads it.
-use mathlib.Core.Path.{_≡_, refl}
+use mathlib.Core.Path.{_≡_, refl, sym, _∙_}
 use mathlib.Core.Bool.{Bool, true, false, cond}
-use mathlib.Core.List.{List}
+use mathlib.Core.List.{List, [], _∷_, map}
 use mathlib.Core.Option.{Option, some, none}
-use Prim.Native.Nat.{ℕ, _+_, _≤_, _<_}
+use Prim.Native.Nat.{ℕ, zero, suc, _-_, _≤_, _<_}
 use native.Mathlib.Omega.{arith}
 use native.Mathlib.Decide.{decLt}
 use borrow.Author.Tests.{le-leb, lt-leb}
 use lib.Dec.{leb}
-use lib.ListN.{length, getD, List·getD-eq-default}
-use Rattle.promises.specs.Book.{Call, start, feed, split, longest, mask, radius, next, fold}
-use Rattle.drive.specs.Script.{pair, lent, numbered, nextCall}
+use lib.ListN.{length, getD}
+use Rattle.words.specs.Cases.{clash}
+use Rattle.promises.specs.Book.{Call, ask, longest}
+use Rattle.drive.specs.Script.{Buffers, buffers, numbered, callCount, callOn, sourceOf, sourceAt, pair, sizesFor, callFor, callSize, nextCall, nextSizes}
+use Rattle.drive.specs.Drives.{answerSize}
 use Rattle.drive.specs.declared.request.Request.{Request}
 
--- no call, on the state of these numbers
-abbrev pub ended : (numbers : List ℕ) → Request
-ended numbers = record { op = 8; b = 0; x = 0; m = 0; n = getD numbers 0 0; k = getD numbers 1 0; longest = getD numbers 2 0 }
+-- no call
+abbrev pub ended : Request
+ended = record { op = callCount; b = 0; x = 0; m = 0 }
 
 -- the call of the first six bytes
-abbrev pub requestOf : (script numbers : List ℕ) → Request
-requestOf script numbers = record {
-  op = getD script 0 0;
-  b = getD script 1 0;
-  x = pair script 2;
-  m = pair script 4;
-  n = getD numbers 0 0;
-  k = getD numbers 1 0;
-  longest = getD numbers 2 0;
-}
+abbrev pub requestOf : (script : List ℕ) → Request
+requestOf script = record { op = getD script 0 0; b = getD script 1 0; x = pair script 2; m = pair script 4 }
 
 -- the call that a request is for
-abbrev pub callFor : Request → (lists bytes : List ℕ) → Option Call
-callFor q lists bytes = getD (numbered (q .b) (q .x) (q .m) lists bytes) (q .op) none
+abbrev pub requested : Request → Buffers → Option Call
+requested q left = callFor (q .op) (q .b) (q .x) (q .m) left
 
 -- the next call, where there is room for its answer
-abbrev pub called : (script lists bytes : List ℕ) (room : ℕ) → Option Call
-called script lists bytes room = cond (leb 3 room) (nextCall script lists bytes) none
+abbrev pub called : (script : List ℕ) → Buffers → (room : ℕ) → Option Call
+called script left room = cond (leb answerSize room) (nextCall script left) none
 
-pub has-room : (script lists bytes : List ℕ) (room : ℕ) (c : Call) → called script lists bytes room ≡ some c → 3 ≤ room
-has-room script lists bytes room c e = elim (decLt room 3) [
-  | yes l ↦ let z : _≡_ {A = ℕ} 0 1 = cc (simp (lt-leb _ _ l) at e) in absurd (omega arith)
+pub has-room : (script : List ℕ) (left : Buffers) (room : ℕ) (c : Call) → called script left room ≡ some c → answerSize ≤ room
+has-room script left room c e = elim (decLt room answerSize) [
+  | yes l ↦ clash (cc (simp (lt-leb _ _ l) at e))
   | no l ↦ omega arith
 ]
 
--- q is the request of the next call, on the state of these numbers
-pub record Requests (script : List ℕ) (room : ℕ) (numbers : List ℕ) (q : Request) : Type 0 where
-  pub n : q .n ≡ getD numbers 0 0
-  pub k : q .k ≡ getD numbers 1 0
-  pub longest : q .longest ≡ getD numbers 2 0
-  pub calls : (lists bytes : List ℕ) → callFor q lists bytes ≡ called script lists bytes room
+-- q is the request of the next call, or of none where there is none
+pub data Requests (script : List ℕ) (room : ℕ) (q : Request) : Type 0 where
+  here : q ≡ requestOf script → callSize ≤ length script → answerSize ≤ room → Requests script room q
+  over : q ≡ ended → ((left : Buffers) → called script left room ≡ none) → Requests script room q
 
 cond-same : (b : Bool) → _≡_ {A = Option Call} (cond b none none) none
 cond-same true = refl
 cond-same false = refl
 
-pub request-here : (script numbers : List ℕ) (room : ℕ) → 6 ≤ length script → 3 ≤ room → Requests script room numbers (requestOf script numbers)
+pub script-ends : (script : List ℕ) (room : ℕ) → length script < callSize → (left : Buffers) → called script left room ≡ none
 unfolding nextCall
-request-here script numbers room s r =
-    record { n = refl; k = refl; longest = refl; calls = λ lists bytes. simp (le-leb _ _ s, le-leb _ _ r) }
+script-ends script room s left = simp (lt-leb _ _ s, cond-same)
 
-pub script-ends : (script numbers : List ℕ) (room : ℕ) → length script < 6 → Requests script room numbers (ended numbers)
-unfolding nextCall numbered
-script-ends script numbers room s = record { n = refl; k = refl; longest = refl; calls = λ lists bytes. simp (lt-leb _ _ s, cond-same) }
+pub room-ends : (script : List ℕ) (room : ℕ) → room < answerSize → (left : Buffers) → called script left room ≡ none
+room-ends script room r left = simp (lt-leb _ _ r)
 
-pub room-ends : (script numbers : List ℕ) (room : ℕ) → room < 3 → Requests script room numbers (ended numbers)
-unfolding numbered
-room-ends script numbers room r = record { n = refl; k = refl; longest = refl; calls = λ lists bytes. simp (lt-leb _ _ r) }
+ends : (left : Buffers) → requested ended left ≡ none
+unfolding callFor
+ends left = refl
 
--- The calls by their numbers
+called-here : (script : List ℕ) (room : ℕ) → callSize ≤ length script → answerSize ≤ room → (left : Buffers)
+    → requested (requestOf script) left ≡ called script left room
+unfolding nextCall
+called-here script room s r left = simp (le-leb _ _ s, le-leb _ _ r)
 
-module _ (q : Request) (lists bytes : List ℕ) where
-  pub asks-start : q .op ≡ 0 → callFor q lists bytes ≡ some (start (q .b))
-  unfolding numbered
-  asks-start e = rw e
+pub requests-called : {script : List ℕ} {room : ℕ} {q : Request} → Requests script room q → (left : Buffers) → requested q left ≡ called script left room
+requests-called {script} {room} (here e s r) left = rw e (called-here script room s r left)
+requests-called (over e f) left = rw e (ends left ∙ sym (f left))
 
-  pub asks-feed : q .op ≡ 1 → callFor q lists bytes ≡ lent (q .m) lists (λ visits. feed (q .b) visits)
-  unfolding numbered
-  asks-feed e = rw e
+-- where a call is made, it is lent as much as its bytes say
+pub requests-sizes : {script : List ℕ} {room : ℕ} {q : Request} → Requests script room q → (left : Buffers) {c : Call} → requested q left ≡ some c
+    → sizesFor (q .op) (q .m) ≡ nextSizes script
+requests-sizes (here e s r) left f = rw e
+requests-sizes {q = q} (over e g) left {c} f = let z : none ≡ some c = sym (ends left) ∙ rw e at f in clash (cc z)
 
-  pub asks-split : q .op ≡ 2 → callFor q lists bytes ≡ lent (q .m) lists (λ ends. split (q .x) (q .b) ends)
-  unfolding numbered
-  asks-split e = rw e
+-- The sources of the calls, one after the other
 
-  pub asks-longest : q .op ≡ 3 → callFor q lists bytes ≡ some longest
-  unfolding numbered
-  asks-longest e = rw e
+source-of : (cs : List Call) (op : ℕ) → getD (map sourceOf cs) op (sourceOf (ask longest)) ≡ sourceOf (getD cs op (ask longest))
+source-of [] op = refl
+source-of (c ∷ cs) zero = refl
+source-of (c ∷ cs) (suc op) = source-of cs op
 
-  pub asks-mask : q .op ≡ 4 → callFor q lists bytes ≡ some (mask (q .x))
-  unfolding numbered
-  asks-mask e = rw e
+unfoldable pub sources : List ℕ
+unfolding numbered sourceOf
+sources = map sourceOf (numbered 0 0 (buffers [] [] []))
 
-  pub asks-radius : q .op ≡ 5 → callFor q lists bytes ≡ some (radius (q .x))
-  unfolding numbered
-  asks-radius e = rw e
-
-  pub asks-next : q .op ≡ 6 → callFor q lists bytes ≡ some (next (q .x))
-  unfolding numbered
-  asks-next e = rw e
-
-  pub asks-fold : q .op ≡ 7 → callFor q lists bytes ≡ lent (q .m) bytes (λ output. fold (q .x) (q .b) output)
-  unfolding numbered
-  asks-fold e = rw e
-
-  pub asks-none : 8 ≤ q .op → callFor q lists bytes ≡ none
-  unfolding numbered
-  asks-none h = List·getD-eq-default (numbered (q .b) (q .x) (q .m) lists bytes) none h
+pub source-at : (op : ℕ) → getD sources op 0 ≡ sourceAt op
+unfolding sources sourceAt callOn sourceOf
+source-at op = source-of (numbered 0 0 (buffers [] [] [])) op
 
 -- not k, so above it
-pub above : {k op : ℕ} → k ≤ op → (op ≡ k → ⊥) → k + 1 ≤ op
+pub above : {k op : ℕ} → k ≤ op → (op ≡ k → ⊥) → suc k ≤ op
 above {k} {op} h f = elim (decLt k op) [ yes l ↦ omega arith | no l ↦ absurd (f (omega arith)) ]

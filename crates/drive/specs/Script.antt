@@ -1,77 +1,138 @@
 -- The script of `drive`: the calls that it asks for, six bytes each: the call's number, b, and x and m of two bytes, the low one first.
-use mathlib.Core.Bool.{cond}
+use mathlib.Core.Path.{_≡_, refl}
+use mathlib.Core.Bool.{Bool, cond, _&&_}
 use mathlib.Core.List.{List, [], _∷_}
 use mathlib.Core.Option.{Option, some, none}
 use Prim.Native.Nat.{ℕ, zero, suc, _+_, _*_}
-use lib.Dec.{leb}
+use lib.Dec.{eqb, leb, ltb}
 use lib.ListN.{length, getD, take, drop}
-use Rattle.promises.specs.Book.{Call, start, feed, split, longest, mask, radius, next, fold}
-use Rattle.promises.specs.Book.{lent as lentTo}
+use Rattle.drive.specs.declared.lending.Sizes.{Sizes}
+use Rattle.promises.specs.Book.{Call, start, feed, ask, split, longest, mask, radius, next, fold}
+
+-- What is lent beside the state: entries of lists, bytes of outputs, and bytes that calls only read; what is left of each
+pub record Buffers : Type 0 where
+  pub lists : List ℕ
+  pub bytes : List ℕ
+  pub input : List ℕ
+
+abbrev pub buffers : (lists bytes input : List ℕ) → Buffers
+buffers lists bytes input = record { lists = lists; bytes = bytes; input = input }
+
+-- The calls by their numbers, each on what it is lent. No call reads input yet
+unfoldable pub numbered : (b x : ℕ) → Buffers → List Call
+numbered b x part =
+    start b
+    ∷ feed b (part .lists)
+    ∷ ask (split x b (part .lists))
+    ∷ ask longest
+    ∷ ask (mask x)
+    ∷ ask (radius x)
+    ∷ ask (next x)
+    ∷ ask (fold x b (part .bytes))
+    ∷ []
+
+-- how many they are
+abbrev pub callCount : ℕ
+callCount = 8
+
+pub counted : (b x : ℕ) (part : Buffers) → length (numbered b x part) ≡ callCount
+unfolding numbered
+counted b x part = refl
+
+-- the call of a number below that
+unfoldable pub callOn : (op b x : ℕ) → Buffers → Call
+unfolding numbered
+callOn op b x part = getD (numbered b x part) op (ask longest)
+
+-- What a call is lent its list of
+
+abbrev pub nothing : ℕ
+nothing = 0
+
+abbrev pub ofLists : ℕ
+ofLists = 1
+
+abbrev pub ofBytes : ℕ
+ofBytes = 2
+
+abbrev pub ofInput : ℕ
+ofInput = 3
+
+unfoldable pub sourceOf : Call → ℕ
+sourceOf (start K) = nothing
+sourceOf (feed pick visits) = ofLists
+sourceOf (ask (split i k ends)) = ofLists
+sourceOf (ask longest) = nothing
+sourceOf (ask (mask i)) = nothing
+sourceOf (ask (radius c)) = nothing
+sourceOf (ask (next c)) = nothing
+sourceOf (ask (fold i k output)) = ofBytes
+
+-- the list of a call that is lent it from there; [] of any other
+abbrev pub listFrom : (source : ℕ) → Call → (list : List ℕ) → List ℕ
+listFrom source c list = cond (eqb (sourceOf c) source) list []
+
+-- The next call
 
 -- the number of two bytes at place i
 abbrev pub pair : (script : List ℕ) (i : ℕ) → ℕ
 pair script i = getD script i 0 + 256 * getD script (i + 1) 0
 
--- a call that is lent the next m of a list, where so many are left
-unfoldable pub lent : (m : ℕ) (list : List ℕ) (call : List ℕ → Call) → Option Call
-lent m list call = cond (leb m (length list)) (some (call (take m list))) none
+-- what the call of this number is lent its list of
+unfoldable pub sourceAt : (op : ℕ) → ℕ
+unfolding callOn sourceOf
+sourceAt op = sourceOf (callOn op 0 0 (buffers [] [] []))
 
--- the calls by their numbers; lists and bytes are what is left to lend
-unfoldable pub numbered : (b x m : ℕ) (lists bytes : List ℕ) → List (Option Call)
-unfolding lent
-numbered b x m lists bytes =
-    some (start b)
-    ∷ lent m lists (λ visits. feed b visits)
-    ∷ lent m lists (λ ends. split x b ends)
-    ∷ some longest
-    ∷ some (mask x)
-    ∷ some (radius x)
-    ∷ some (next x)
-    ∷ lent m bytes (λ output. fold x b output)
-    ∷ []
+-- of the m asked for, so many come from each
+abbrev pub sizesOf : (source m : ℕ) → Sizes
+sizesOf source m = record {
+  entries = cond (eqb source ofLists) m 0;
+  output = cond (eqb source ofBytes) m 0;
+  input = cond (eqb source ofInput) m 0;
+}
 
--- the next call; none where fewer than six bytes are left, where no call has the number, and where too little is left to lend
-unfoldable pub nextCall : (script lists bytes : List ℕ) → Option Call
-unfolding numbered
-nextCall script lists bytes =
-    cond (leb 6 (length script)) (getD (numbered (getD script 1 0) (pair script 2) (pair script 4) lists bytes) (getD script 0 0) none) none
+abbrev pub sizesFor : (op m : ℕ) → Sizes
+sizesFor op m = sizesOf (sourceAt op) m
 
--- the list, of a call that is lent entries of lists; [] of any other
-unfoldable pub fromLists : Call → (list : List ℕ) → List ℕ
-fromLists (start K) list = []
-fromLists (feed pick visits) list = list
-fromLists (split i k ends) list = list
-fromLists longest list = []
-fromLists (mask i) list = []
-fromLists (radius c) list = []
-fromLists (next c) list = []
-fromLists (fold i k output) list = []
+-- a call has the number, and so much is left to lend
+abbrev pub fits : (op : ℕ) → Sizes → (lists bytes input : ℕ) → Bool
+fits op z lists bytes input = ltb op callCount && (leb (z .entries) lists && (leb (z .output) bytes && leb (z .input) input))
 
--- the same of bytes
-unfoldable pub fromBytes : Call → (list : List ℕ) → List ℕ
-fromBytes (start K) list = []
-fromBytes (feed pick visits) list = []
-fromBytes (split i k ends) list = []
-fromBytes longest list = []
-fromBytes (mask i) list = []
-fromBytes (radius c) list = []
-fromBytes (next c) list = []
-fromBytes (fold i k output) list = list
+abbrev pub fitsIn : (op : ℕ) → Sizes → Buffers → Bool
+fitsIn op z left = fits op z (length (left .lists)) (length (left .bytes)) (length (left .input))
 
-abbrev pub entriesLent : Call → List ℕ
-entriesLent c = fromLists c (lentTo c)
+-- the parts that are lent, and what is left behind them
+abbrev pub parts : Sizes → Buffers → Buffers
+parts z left = buffers (take (z .entries) (left .lists)) (take (z .output) (left .bytes)) (take (z .input) (left .input))
 
-abbrev pub bytesLent : Call → List ℕ
-bytesLent c = fromBytes c (lentTo c)
+abbrev pub past : Sizes → Buffers → Buffers
+past z left = buffers (drop (z .entries) (left .lists)) (drop (z .output) (left .bytes)) (drop (z .input) (left .input))
+
+unfoldable pub callFor : (op b x m : ℕ) → Buffers → Option Call
+unfolding callOn sourceAt
+callFor op b x m left = cond (fitsIn op (sizesFor op m) left) (some (callOn op b x (parts (sizesFor op m) left))) none
+
+abbrev pub callSize : ℕ
+callSize = 6
+
+-- none where fewer than six bytes are left, where no call has the number, and where too little is left to lend
+unfoldable pub nextCall : (script : List ℕ) → Buffers → Option Call
+unfolding callFor
+nextCall script left =
+    cond (leb callSize (length script)) (callFor (getD script 0 0) (getD script 1 0) (pair script 2) (pair script 4) left) none
+
+-- how much it is lent
+abbrev pub nextSizes : (script : List ℕ) → Sizes
+nextSizes script = sizesFor (getD script 0 0) (pair script 4)
+
+-- All calls, one after the other, where the answers have room for so many
 
 unfoldable pub orEnd : Option Call → (Call → List Call) → List Call
 orEnd none f = []
 orEnd (some c) f = f c
 
--- all calls, one after the other, where the answers have room for so many
-unfoldable pub asked : (room : ℕ) (script lists bytes : List ℕ) → List Call
-unfolding nextCall lentTo fromLists fromBytes orEnd
-asked zero script lists bytes = []
-asked (suc room) script lists bytes =
-    orEnd (nextCall script lists bytes)
-    (λ c. c ∷ asked room (drop 6 script) (drop (length (entriesLent c)) lists) (drop (length (bytesLent c)) bytes))
+unfoldable pub asked : (room : ℕ) (script : List ℕ) → Buffers → List Call
+unfolding nextCall sourceAt orEnd
+asked zero script left = []
+asked (suc room) script left =
+    orEnd (nextCall script left) (λ c. c ∷ asked room (drop callSize script) (past (nextSizes script) left))

@@ -8,41 +8,48 @@ ghost use lib.ListN.{length, take};
 ghost use lib.Seq.{sets};
 ghost use Rattle.promises.specs.Refusals.{showRefusal};
 ghost use Rattle.promises.specs.Replies.{shown, liftReply};
+ghost use Rattle.drive.specs.Script.{buffers, nextSizes};
 ghost use Rattle.drive.specs.Told.{numbersOf};
-ghost use Rattle.drive.specs.Drives.{stateOf, encoded, Drives};
-ghost use Rattle.drive.specs.Turns.{cursor, calledAt, Room, Settles, Turned};
+ghost use Rattle.drive.specs.Drives.{heldIn, stateOf, encoded, Drives};
+ghost use Rattle.drive.specs.Advancing.{cursor, scriptAt, calledAt, Room, Settles, Advances};
 
+mod lending;
 mod make;
 mod request;
 mod told;
 
-use crate::make::Turn;
+use crate::make::Tried;
 use crate::make::make;
+use crate::request::ANSWER_SIZE;
 use crate::request::request_at;
 use crate::told::Told;
 use crate::told::lift_told;
-use cells::ByCentre;
-use cells::ByPlace;
+use cells::Centre;
+use cells::Centres;
 use cells::Letters;
-use cells::store_bytes;
+use cells::Numbers;
+use cells::Places;
+use text::bytes::write_bytes;
 
-// How far the script has been followed: the calls made, and the entries and bytes lent to them; on until it ends.
+// How far the script has been followed: the calls made, and the entries, output bytes and input bytes lent to them; on until it ends.
 struct Cursor {
     on: bool,
     made: usize,
     listed: usize,
     written: usize,
+    read: usize,
 }
 
 // Before the first call.
 fn outset() -> Cursor
-    ensures { λ r. ⌜ r ≡ cursor true 0 0 0 ⌝ }
+    ensures { λ r. ⌜ r ≡ cursor true 0 0 0 0 ⌝ }
 {
     Cursor {
         on: true,
         made: 0,
         listed: 0,
         written: 0,
+        read: 0,
     }
 }
 
@@ -53,30 +60,44 @@ fn wide(x: u8) -> usize
     x as usize
 }
 
-// The three numbers of an answer.
+// The numbers of the state: n, K and the centre of the longest ending.
+fn held_in(numbers: &[usize; 3]) -> Numbers
+    ensures { λ r. ⌜ r ≡ heldIn (now (numbers .entry)) ⌝ }
+{
+    Numbers {
+        n: numbers[0],
+        k: numbers[1],
+        longest: Centre(numbers[2]),
+    }
+}
+
+// The four numbers of an answer.
 fn tell(answers: &mut [usize], at: usize, told: Told)
-    requires { ⌜ at + 3 ≤ length (now answers) ⌝ }
+    requires { ⌜ at + 4 ≤ length (now answers) ⌝ }
     ensures { λ r. ⌜ now (answers .exit) ≡ sets (now (answers .entry)) at (numbersOf told) ⌝ }
 {
     answers[at] = told.kind;
     answers[at + 1] = told.first;
     answers[at + 2] = told.second;
+    answers[at + 3] = told.third;
 }
 
-// After a turn: the numbers of the state and the answer are stored, where a call was made.
-fn settle(numbers: &mut [usize; 3], answers: &mut [usize], at: Cursor, t: Turn) -> Cursor
+// After a request: the numbers of the state and the answer are stored, where a call was made.
+fn settle(numbers: &mut [usize; 3], answers: &mut [usize], at: Cursor, t: Tried) -> Cursor
     requires { ⌜ (t .made ≡ true → Room (now answers) at t) ⌝ }
     ensures { λ r. ⌜ Settles (now (numbers .entry)) (now (answers .entry)) at t r (now (numbers .exit)) (now (answers .exit)) ⌝ }
 {
     if t.made {
-        *numbers = [t.n, t.k, t.longest];
+        let held = t.numbers;
+        *numbers = [held.n, held.k, held.longest.0];
         let told = t.told;
-        tell(answers, 3 * at.made, told);
+        tell(answers, ANSWER_SIZE * at.made, told);
         return Cursor {
             on: true,
             made: at.made + 1,
             listed: at.listed + t.entries,
             written: at.written + t.output,
+            read: at.read + t.input,
         };
     }
     Cursor {
@@ -84,45 +105,42 @@ fn settle(numbers: &mut [usize; 3], answers: &mut [usize], at: Cursor, t: Turn) 
         made: at.made,
         listed: at.listed,
         written: at.written,
+        read: at.read,
     }
 }
 
 // The next call of the script, if there is one.
-fn turn(
+fn advance(
     letters: &mut Letters,
-    radius: &mut ByCentre,
-    heads: &mut ByPlace,
-    lends: &mut ByCentre,
-    next: &mut ByCentre,
-    prev: &mut ByCentre,
-    rows: &mut ByPlace,
-    gathered: &mut ByPlace,
+    centres: &mut Centres,
+    places: &mut Places,
     numbers: &mut [usize; 3],
     script: &[u8],
+    input: &[u8],
     lists: &mut [u16],
     bytes: &mut [u8],
     answers: &mut [usize],
     at: Cursor,
 ) -> Cursor
-    requires { ⌜ (at .listed ≤ length (now lists)) × (at .written ≤ length (now bytes)) ⌝ }
-    ensures { λ r. ⌜ Turned (stateOf (now (numbers .entry)) (now (letters .entry)) (now (radius .entry)) (now (heads .entry)) (now (lends .entry)) (now (next .entry)) (now (prev .entry)) (now (rows .entry)) (now (gathered .entry))) (now (lists .entry)) (now (bytes .entry)) (now (answers .entry))
-        at r (stateOf (now (numbers .exit)) (now (letters .exit)) (now (radius .exit)) (now (heads .exit)) (now (lends .exit)) (now (next .exit)) (now (prev .exit)) (now (rows .exit)) (now (gathered .exit))) (now (lists .exit)) (now (bytes .exit)) (now (answers .exit))
-        (calledAt (now (script .entry)) (now (lists .entry)) (now (bytes .entry)) (now (answers .entry)) at) ⌝ }
+    requires { ⌜ (at .listed ≤ length (now lists)) × (at .written ≤ length (now bytes)) × (at .read ≤ length (now input)) ⌝ }
+    ensures { λ r. ⌜ Advances (stateOf (now (numbers .entry)) (now (letters .entry)) (now (centres .entry)) (now (places .entry)))
+        (nextSizes (scriptAt (now (script .entry)) at)) (buffers (now (lists .entry)) (now (bytes .entry)) (now (input .entry))) (now (answers .entry)) at r
+        (stateOf (now (numbers .exit)) (now (letters .exit)) (now (centres .exit)) (now (places .exit))) (now (lists .exit)) (now (bytes .exit)) (now (answers .exit))
+        (calledAt (now (script .entry)) (buffers (now (lists .entry)) (now (bytes .entry)) (now (input .entry))) (now (answers .entry)) at) ⌝ }
 {
-    let q = request_at(script, answers.len(), numbers, at.made);
+    let q = request_at(script, answers.len(), at.made);
+    let held = held_in(numbers);
+    let read = at.read;
     let listed = at.listed;
     let written = at.written;
     let t = make(
         letters,
-        radius,
-        heads,
-        lends,
-        next,
-        prev,
-        rows,
-        gathered,
+        centres,
+        places,
+        &input[read..],
         &mut lists[listed..],
         &mut bytes[written..],
+        held,
         q,
     );
     settle(numbers, answers, at, t)
@@ -132,35 +150,28 @@ fn turn(
 #[no_mangle]
 pub extern "C" fn drive(
     letters: &mut Letters,
-    radius: &mut ByCentre,
-    heads: &mut ByPlace,
-    lends: &mut ByCentre,
-    next: &mut ByCentre,
-    prev: &mut ByCentre,
-    rows: &mut ByPlace,
-    gathered: &mut ByPlace,
+    centres: &mut Centres,
+    places: &mut Places,
     numbers: &mut [usize; 3],
     script: &[u8],
+    input: &[u8],
     lists: &mut [u16],
     bytes: &mut [u8],
     answers: &mut [usize],
 ) -> usize
-    ensures { λ r. ⌜ Drives (stateOf (now (numbers .entry)) (now (letters .entry)) (now (radius .entry)) (now (heads .entry)) (now (lends .entry)) (now (next .entry)) (now (prev .entry)) (now (rows .entry)) (now (gathered .entry))) (now (script .entry)) (now (lists .entry)) (now (bytes .entry)) (now (answers .entry))
-        r (stateOf (now (numbers .exit)) (now (letters .exit)) (now (radius .exit)) (now (heads .exit)) (now (lends .exit)) (now (next .exit)) (now (prev .exit)) (now (rows .exit)) (now (gathered .exit))) (now (lists .exit)) (now (bytes .exit)) (now (answers .exit)) ⌝ }
+    ensures { λ r. ⌜ Drives (stateOf (now (numbers .entry)) (now (letters .entry)) (now (centres .entry)) (now (places .entry)))
+        (now (script .entry)) (buffers (now (lists .entry)) (now (bytes .entry)) (now (input .entry))) (now (answers .entry))
+        r (stateOf (now (numbers .exit)) (now (letters .exit)) (now (centres .exit)) (now (places .exit))) (now (lists .exit)) (now (bytes .exit)) (now (answers .exit)) ⌝ }
 {
     let mut at = outset();
     while at.on {
-        at = turn(
+        at = advance(
             letters,
-            radius,
-            heads,
-            lends,
-            next,
-            prev,
-            rows,
-            gathered,
+            centres,
+            places,
             numbers,
             script,
+            input,
             lists,
             bytes,
             answers,
@@ -184,10 +195,10 @@ pub extern "C" fn drive_show(
     ensures answer { λ r. ⌜ now (answer .exit)
         ≡ showRefusal (now (letters .entry)) (now (ends .entry)) s ∷ length (shown (now (letters .entry)) (now (ends .entry)) s) ∷ [] ⌝ }
 {
-    let number = board::show::show_number(letters, ends, s);
-    let section = board::show::show(letters, ends, s);
+    let number = calls::show::show_number(letters, ends, s);
+    let section = calls::show::show(letters, ends, s);
     *answer = [wide(number), section.len()];
-    store_bytes(part, 0, section);
+    write_bytes(section, part, 0);
     0
 }
 
@@ -197,7 +208,7 @@ pub extern "C" fn drive_lift(letter: u8, answer: &mut [usize; 2]) -> usize
     ensures { λ r. ⌜ r ≡ 0 ⌝ }
     ensures answer { λ r. ⌜ now (answer .exit) ≡ take 2 (encoded (liftReply letter .said)) ⌝ }
 {
-    let told = lift_told(board::lift::lift(letter));
+    let told = lift_told(calls::lift::lift(letter));
     *answer = [told.kind, told.first];
     0
 }

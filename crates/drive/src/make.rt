@@ -1,11 +1,17 @@
-// One call on the lent arrays, by its number.
+// One call on a state in lent parts, by its number.
 ghost use mathlib.Core.Path.{_≡_};
+ghost use Prim.Native.Nat.{_≤_};
+ghost use Rattle.cells.specs.Lanes.{byCentre, byPlace};
 ghost use Rattle.promises.specs.Answers.{startSays, feedSays};
-ghost use Rattle.promises.specs.State.{draftOf};
+ghost use Rattle.promises.specs.State.{draftIn};
+ghost use Rattle.drive.specs.Script.{buffers, sourceAt, sizesFor};
 ghost use Rattle.drive.specs.Drives.{encoded};
-ghost use Rattle.drive.specs.Requests.{callFor};
 ghost use Rattle.drive.specs.Told.{numbersOf};
-ghost use Rattle.drive.specs.Makes.{readOf, noneOf, turnOf, Turns, StartTurn, FeedTurn, LongestTurn, MaskTurn, RadiusTurn, NextTurn, SplitTurn, FoldTurn};
+ghost use Rattle.drive.specs.Requests.{requested};
+ghost use Rattle.drive.specs.Calling.{Lent, Answers, Tries, triedAs, noneTried};
+use crate::lending::Sizes;
+use crate::lending::fits;
+use crate::lending::sizes_of;
 use crate::request::Request;
 use crate::told::Told;
 use crate::told::centre_told;
@@ -15,285 +21,206 @@ use crate::told::radius_told;
 use crate::told::record_told;
 use crate::told::split_told;
 use crate::told::start_told;
-use cells::ByCentre;
-use cells::ByPlace;
+use calls::feed::Step;
+use calls::start::Begin;
 use cells::Centre;
+use cells::Centres;
 use cells::Letters;
+use cells::NEXT;
+use cells::Numbers;
 use cells::Place;
-use feeding::feed::Step;
-use feeding::start::Begin;
+use cells::Places;
+use cells::RADIUS;
+use cells::ROWS;
 
-// What came of a request: whether a call was made, its answer, the numbers of the state afterwards, and how much it was lent.
-pub struct Turn {
-    pub made: bool,
-    pub told: Told,
-    pub n: usize,
-    pub k: usize,
-    pub longest: usize,
-    pub entries: usize,
-    pub output: usize,
+// How many calls there are: the number of none.
+pub const CALLS: u8 = 8;
+
+// What each call is lent its list of: nothing, entries of lists, bytes of outputs, or bytes that it only reads.
+const SOURCES: [u8; CALLS as usize] = [0, 1, 1, 0, 0, 0, 0, 2];
+
+fn source_at(op: u8) -> u8
+    ensures { λ r. ⌜ r ≡ sourceAt op ⌝ }
+{
+    if op < CALLS {
+        let i = op as usize;
+        return SOURCES[i];
+    }
+    0
 }
 
-// A call that left the state alone.
-fn read(q: Request, told: Told, entries: usize, output: usize) -> Turn
-    ensures { λ r. ⌜ r ≡ readOf q told entries output ⌝ }
+// A call's answer, and the numbers of the state after it.
+struct Called {
+    told: Told,
+    numbers: Numbers,
+}
+
+// What came of a start.
+fn begun(r: Begin) -> Called
+    ensures { λ c. ⌜ (numbersOf (c .told) ≡ encoded (startSays (r .answer))) × (c .numbers ≡ r .numbers) ⌝ }
 {
-    Turn {
+    let answer = r.answer;
+    let numbers = r.numbers;
+    Called {
+        told: start_told(answer),
+        numbers,
+    }
+}
+
+// What came of a feed.
+fn fed(r: Step) -> Called
+    ensures { λ c. ⌜ (numbersOf (c .told) ≡ encoded (feedSays (r .answer))) × (c .numbers ≡ r .numbers) ⌝ }
+{
+    let answer = r.answer;
+    let numbers = r.numbers;
+    Called {
+        told: feed_told(answer),
+        numbers,
+    }
+}
+
+// The answer to a request from number 2 on; list and output are what it is lent.
+fn ask(
+    letters: &Letters,
+    centres: &Centres,
+    places: &Places,
+    list: &mut [u16],
+    output: &mut [u8],
+    held: Numbers,
+    q: Request,
+) -> Told
+    requires { ⌜ (2 ≤ q .op) × Lent q (now list) (now output) ⌝ }
+    ensures { λ t. ⌜ Answers (draftIn held (now (letters .entry)) (byCentre (now (centres .entry))) (byPlace (now (places .entry)))) q (now (list .entry)) (now (output .entry))
+        t (draftIn held (now (letters .entry)) (byCentre (now (centres .entry))) (byPlace (now (places .entry)))) (now (list .exit)) (now (output .exit)) ⌝ }
+{
+    let op = q.op;
+    match op {
+        2 => split_told(calls::split::split(
+            &places[ROWS],
+            &centres[RADIUS],
+            held,
+            Place(q.x),
+            q.b,
+            list,
+        )),
+        3 => centre_told(calls::longest::longest(held)),
+        4 => mask_told(calls::mask::mask(&places[ROWS], held, Place(q.x))),
+        5 => radius_told(calls::radius::radius(&centres[RADIUS], held, Centre(q.x))),
+        6 => centre_told(calls::next::next(&centres[RADIUS], &centres[NEXT], held, Centre(q.x))),
+        _ => record_told(calls::fold::fold(
+            letters,
+            &places[ROWS],
+            &centres[RADIUS],
+            held,
+            Place(q.x),
+            q.b,
+            output,
+        )),
+    }
+}
+
+// The call of a request; list and output are what it is lent.
+fn call(
+    letters: &mut Letters,
+    centres: &mut Centres,
+    places: &mut Places,
+    list: &mut [u16],
+    output: &mut [u8],
+    held: Numbers,
+    q: Request,
+) -> Called
+    requires { ⌜ Lent q (now list) (now output) ⌝ }
+    ensures { λ c. ⌜ Answers (draftIn held (now (letters .entry)) (byCentre (now (centres .entry))) (byPlace (now (places .entry)))) q (now (list .entry)) (now (output .entry))
+        (c .told) (draftIn (c .numbers) (now (letters .exit)) (byCentre (now (centres .exit))) (byPlace (now (places .exit)))) (now (list .exit)) (now (output .exit)) ⌝ }
+{
+    let op = q.op;
+    match op {
+        0 => begun(calls::start::start(letters, centres, places, held, q.b)),
+        1 => fed(calls::feed::feed(letters, centres, places, list, held, q.b)),
+        _ => {
+            let told = ask(letters, centres, places, list, output, held, q);
+            Called {
+                told,
+                numbers: held,
+            }
+        }
+    }
+}
+
+// What came of a request: whether a call was made, its answer, the numbers of the state afterwards, and how much it was lent.
+pub struct Tried {
+    pub made: bool,
+    pub told: Told,
+    pub numbers: Numbers,
+    pub entries: usize,
+    pub output: usize,
+    pub input: usize,
+}
+
+fn tried_as(c: Called, z: Sizes) -> Tried
+    ensures { λ r. ⌜ r ≡ triedAs (c .told) (c .numbers) z ⌝ }
+{
+    let told = c.told;
+    let numbers = c.numbers;
+    Tried {
         made: true,
         told,
-        n: q.n,
-        k: q.k,
-        longest: q.longest,
-        entries,
-        output,
+        numbers,
+        entries: z.entries,
+        output: z.output,
+        input: z.input,
     }
 }
 
 // No call.
-fn none(q: Request) -> Turn
-    ensures { λ r. ⌜ r ≡ noneOf q ⌝ }
+fn none(held: Numbers) -> Tried
+    ensures { λ r. ⌜ r ≡ noneTried held ⌝ }
 {
-    Turn {
+    Tried {
         made: false,
         told: Told {
             kind: 0,
             first: 0,
             second: 0,
+            third: 0,
         },
-        n: q.n,
-        k: q.k,
-        longest: q.longest,
+        numbers: held,
         entries: 0,
         output: 0,
+        input: 0,
     }
 }
 
-// What came of a start.
-fn begun(r: Begin) -> Turn
-    ensures { λ t. ⌜ (numbersOf (t .told) ≡ encoded (startSays (r .answer))) × (t ≡ turnOf (t .told) (r .n) (r .k) (r .longest .0) 0 0) ⌝ }
-{
-    let answer = r.answer;
-    let centre = r.longest;
-    Turn {
-        made: true,
-        told: start_told(answer),
-        n: r.n,
-        k: r.k,
-        longest: centre.0,
-        entries: 0,
-        output: 0,
-    }
-}
-
-// Start with K = b.
-fn start_on(
-    letters: &mut Letters,
-    radius: &mut ByCentre,
-    heads: &mut ByPlace,
-    lends: &mut ByCentre,
-    next: &mut ByCentre,
-    prev: &mut ByCentre,
-    rows: &mut ByPlace,
-    gathered: &mut ByPlace,
-    q: Request,
-) -> Turn
-    ensures { λ t. ⌜ StartTurn
-        (draftOf (q .n) (q .k) (q .longest) (now (letters .entry)) (now (radius .entry)) (now (heads .entry)) (now (lends .entry)) (now (next .entry)) (now (prev .entry)) (now (rows .entry)) (now (gathered .entry))) q
-        t (draftOf (t .n) (t .k) (t .longest) (now (letters .exit)) (now (radius .exit)) (now (heads .exit)) (now (lends .exit)) (now (next .exit)) (now (prev .exit)) (now (rows .exit)) (now (gathered .exit))) ⌝ }
-{
-    begun(feeding::start::start(
-        letters,
-        radius,
-        heads,
-        lends,
-        next,
-        prev,
-        rows,
-        gathered,
-        q.n,
-        q.k,
-        Centre(q.longest),
-        q.b,
-    ))
-}
-
-// What came of a feed.
-fn fed(q: Request, r: Step) -> Turn
-    ensures { λ t. ⌜ (numbersOf (t .told) ≡ encoded (feedSays (r .answer))) × (t ≡ turnOf (t .told) (r .n) (q .k) (r .longest .0) (q .m) 0) ⌝ }
-{
-    let answer = r.answer;
-    let centre = r.longest;
-    Turn {
-        made: true,
-        told: feed_told(answer),
-        n: r.n,
-        k: q.k,
-        longest: centre.0,
-        entries: q.m,
-        output: 0,
-    }
-}
-
-// Feed pick b, with a visit list of the first m entries.
-fn feed_on(
-    letters: &mut Letters,
-    radius: &mut ByCentre,
-    heads: &mut ByPlace,
-    lends: &mut ByCentre,
-    next: &mut ByCentre,
-    prev: &mut ByCentre,
-    rows: &mut ByPlace,
-    gathered: &mut ByPlace,
-    lists: &mut [u16],
-    q: Request,
-) -> Turn
-    ensures { λ t. ⌜ FeedTurn
-        (draftOf (q .n) (q .k) (q .longest) (now (letters .entry)) (now (radius .entry)) (now (heads .entry)) (now (lends .entry)) (now (next .entry)) (now (prev .entry)) (now (rows .entry)) (now (gathered .entry))) q (now (lists .entry))
-        t (draftOf (t .n) (t .k) (t .longest) (now (letters .exit)) (now (radius .exit)) (now (heads .exit)) (now (lends .exit)) (now (next .exit)) (now (prev .exit)) (now (rows .exit)) (now (gathered .exit))) (now (lists .exit)) ⌝ }
-{
-    let m = q.m;
-    if lists.len() < m {
-        return none(q);
-    }
-    let step = feeding::feed::feed(
-        letters,
-        radius,
-        heads,
-        lends,
-        next,
-        prev,
-        rows,
-        gathered,
-        &mut lists[..m],
-        q.n,
-        q.k,
-        Centre(q.longest),
-        q.b,
-    );
-    fed(q, step)
-}
-
-// Split prefix x into b sections, with an ends list of the first m entries.
-fn split_on(rows: &ByPlace, radius: &ByCentre, lists: &mut [u16], q: Request) -> Turn
-    ensures { λ t. ⌜ SplitTurn q (now (rows .entry)) (now (radius .entry)) (now (lists .entry)) t (now (lists .exit)) ⌝ }
-{
-    let m = q.m;
-    if lists.len() < m {
-        return none(q);
-    }
-    let ends = &mut lists[..m];
-    let a = asking::split::split(
-        rows,
-        radius,
-        q.n,
-        q.k,
-        Centre(q.longest),
-        Place(q.x),
-        q.b,
-        ends,
-    );
-    read(q, split_told(a), m, 0)
-}
-
-// The centre of the longest ending.
-fn longest_on(q: Request) -> Turn
-    ensures { λ t. ⌜ LongestTurn q t ⌝ }
-{
-    let a = asking::reading::longest(q.n, q.k, Centre(q.longest));
-    read(q, centre_told(a), 0, 0)
-}
-
-// The mask of prefix x.
-fn mask_on(rows: &ByPlace, q: Request) -> Turn
-    ensures { λ t. ⌜ MaskTurn q (now (rows .entry)) t ⌝ }
-{
-    let a = asking::reading::mask(rows, q.n, q.k, Place(q.x));
-    read(q, mask_told(a), 0, 0)
-}
-
-// The radius at centre x.
-fn radius_on(radius: &ByCentre, q: Request) -> Turn
-    ensures { λ t. ⌜ RadiusTurn q (now (radius .entry)) t ⌝ }
-{
-    let a = asking::reading::radius(radius, q.n, q.k, Centre(q.longest), Centre(q.x));
-    read(q, radius_told(a), 0, 0)
-}
-
-// The next shorter ending after centre x.
-fn next_on(radius: &ByCentre, next: &ByCentre, q: Request) -> Turn
-    ensures { λ t. ⌜ NextTurn q (now (radius .entry)) (now (next .entry)) t ⌝ }
-{
-    let a = asking::reading::next(radius, next, q.n, q.k, Centre(q.longest), Centre(q.x));
-    read(q, centre_told(a), 0, 0)
-}
-
-// The folded record of prefix x in b sections, into the first m bytes.
-fn fold_on(
-    letters: &Letters,
-    rows: &ByPlace,
-    radius: &ByCentre,
-    bytes: &mut [u8],
-    q: Request,
-) -> Turn
-    ensures { λ t. ⌜ FoldTurn q (now (letters .entry)) (now (rows .entry)) (now (radius .entry)) (now (bytes .entry)) t (now (bytes .exit)) ⌝ }
-{
-    let m = q.m;
-    if bytes.len() < m {
-        return none(q);
-    }
-    let output = &mut bytes[..m];
-    let a = asking::folding::fold(
-        letters,
-        rows,
-        radius,
-        q.n,
-        q.k,
-        Centre(q.longest),
-        Place(q.x),
-        q.b,
-        output,
-    );
-    read(q, record_told(a), 0, m)
-}
-
-// The call of a request; lists and bytes are what is left to lend.
+// The call of a request, where it fits; input, lists and bytes are what is left to lend.
 pub fn make(
     letters: &mut Letters,
-    radius: &mut ByCentre,
-    heads: &mut ByPlace,
-    lends: &mut ByCentre,
-    next: &mut ByCentre,
-    prev: &mut ByCentre,
-    rows: &mut ByPlace,
-    gathered: &mut ByPlace,
+    centres: &mut Centres,
+    places: &mut Places,
+    input: &[u8],
     lists: &mut [u16],
     bytes: &mut [u8],
+    held: Numbers,
     q: Request,
-) -> Turn
-    ensures { λ t. ⌜ Turns (draftOf (q .n) (q .k) (q .longest) (now (letters .entry)) (now (radius .entry)) (now (heads .entry)) (now (lends .entry)) (now (next .entry)) (now (prev .entry)) (now (rows .entry)) (now (gathered .entry))) (now (lists .entry)) (now (bytes .entry))
-        t (draftOf (t .n) (t .k) (t .longest) (now (letters .exit)) (now (radius .exit)) (now (heads .exit)) (now (lends .exit)) (now (next .exit)) (now (prev .exit)) (now (rows .exit)) (now (gathered .exit))) (now (lists .exit)) (now (bytes .exit)) (callFor q (now (lists .entry)) (now (bytes .entry))) ⌝ }
+) -> Tried
+    ensures { λ t. ⌜ Tries (draftIn held (now (letters .entry)) (byCentre (now (centres .entry))) (byPlace (now (places .entry))))
+        (sizesFor (q .op) (q .m)) (buffers (now (lists .entry)) (now (bytes .entry)) (now (input .entry))) t
+        (draftIn (t .numbers) (now (letters .exit)) (byCentre (now (centres .exit))) (byPlace (now (places .exit)))) (now (lists .exit)) (now (bytes .exit))
+        (requested q (buffers (now (lists .entry)) (now (bytes .entry)) (now (input .entry)))) ⌝ }
 {
-    let op = q.op;
-    match op {
-        0 => start_on(letters, radius, heads, lends, next, prev, rows, gathered, q),
-        1 => feed_on(
+    let z = sizes_of(source_at(q.op), q.m);
+    if fits(q.op, z, lists.len(), bytes.len(), input.len()) {
+        let entries = z.entries;
+        let output = z.output;
+        let c = call(
             letters,
-            radius,
-            heads,
-            lends,
-            next,
-            prev,
-            rows,
-            gathered,
-            lists,
+            centres,
+            places,
+            &mut lists[..entries],
+            &mut bytes[..output],
+            held,
             q,
-        ),
-        2 => split_on(rows, radius, lists, q),
-        3 => longest_on(q),
-        4 => mask_on(rows, q),
-        5 => radius_on(radius, q),
-        6 => next_on(radius, next, q),
-        7 => fold_on(letters, rows, radius, bytes, q),
-        _ => none(q),
+        );
+        return tried_as(c, z);
     }
+    none(held)
 }

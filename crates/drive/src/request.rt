@@ -1,23 +1,22 @@
-// A call that the script asks for, beside the numbers of the state that it is made on.
+// A call that the script asks for.
 ghost use mathlib.Core.Path.{_≡_};
-ghost use Prim.Native.Nat.{_+_, _-_, _*_};
-ghost use lib.ListN.{drop};
+ghost use Prim.Native.Nat.{_+_, _-_, _*_, _≤_};
+ghost use lib.ListN.{length, drop};
+ghost use Rattle.drive.specs.Script.{callSize};
 ghost use Rattle.drive.specs.Requests.{Requests, ended, requestOf};
-use cells::byte_at;
+use crate::make::CALLS;
 
-// The number of no call.
-const END: u8 = 8;
+// The bytes of a call, and the numbers of an answer.
+const CALL_SIZE: usize = 6;
 
+pub const ANSWER_SIZE: usize = 4;
+
+// The call's number, and its arguments.
 pub struct Request {
-    // The call's number, and its arguments.
     pub op: u8,
     pub b: u8,
     pub x: usize,
     pub m: usize,
-    // The picks so far, K, the centre of the longest ending.
-    pub n: usize,
-    pub k: usize,
-    pub longest: usize,
 }
 
 // The number of two bytes.
@@ -27,46 +26,41 @@ fn pair(low: u8, high: u8) -> usize
     (low as usize) + 256 * (high as usize)
 }
 
-// No call, on the state of these numbers.
-fn ended(numbers: &[usize; 3]) -> Request
-    ensures { λ r. ⌜ r ≡ ended (now (numbers .entry)) ⌝ }
+// No call.
+fn ended() -> Request
+    ensures { λ r. ⌜ r ≡ ended ⌝ }
 {
     Request {
-        op: END,
+        op: CALLS,
         b: 0,
         x: 0,
         m: 0,
-        n: numbers[0],
-        k: numbers[1],
-        longest: numbers[2],
     }
 }
 
 // The call of the first six bytes.
-fn request_of(script: &[u8], numbers: &[usize; 3]) -> Request
-    ensures { λ r. ⌜ r ≡ requestOf (now (script .entry)) (now (numbers .entry)) ⌝ }
+fn request_of(script: &[u8]) -> Request
+    requires { ⌜ callSize ≤ length (now script) ⌝ }
+    ensures { λ r. ⌜ r ≡ requestOf (now (script .entry)) ⌝ }
 {
     Request {
-        op: byte_at(script, 0),
-        b: byte_at(script, 1),
-        x: pair(byte_at(script, 2), byte_at(script, 3)),
-        m: pair(byte_at(script, 4), byte_at(script, 5)),
-        n: numbers[0],
-        k: numbers[1],
-        longest: numbers[2],
+        op: script[0],
+        b: script[1],
+        x: pair(script[2], script[3]),
+        m: pair(script[4], script[5]),
     }
 }
 
 // The call after those made, where the script goes on and there is room for its answer.
-pub fn request_at(script: &[u8], room: usize, numbers: &[usize; 3], made: usize) -> Request
-    ensures { λ r. ⌜ Requests (drop (6 * made) (now (script .entry))) (room - 3 * made) (now (numbers .entry)) r ⌝ }
+pub fn request_at(script: &[u8], room: usize, made: usize) -> Request
+    ensures { λ r. ⌜ Requests (drop (6 * made) (now (script .entry))) (room - 4 * made) r ⌝ }
 {
-    if script.len() / 6 <= made {
-        return ended(numbers);
+    if script.len() / CALL_SIZE <= made {
+        return ended();
     }
-    if room / 3 <= made {
-        return ended(numbers);
+    if room / ANSWER_SIZE <= made {
+        return ended();
     }
-    let read = 6 * made;
-    request_of(&script[read..], numbers)
+    let read = CALL_SIZE * made;
+    request_of(&script[read..])
 }

@@ -1,4 +1,4 @@
-// An answer in three numbers.
+// An answer in four numbers.
 ghost use mathlib.Core.Path.{_≡_};
 ghost use Rattle.promises.specs.Answers.{startSays, feedSays, maskSays, radiusSays, centreSays, splitSays, recordSays, liftSays};
 ghost use Rattle.drive.specs.Drives.{encoded};
@@ -17,6 +17,7 @@ pub struct Told {
     pub kind: usize,
     pub first: usize,
     pub second: usize,
+    pub third: usize,
 }
 
 fn given(first: usize, second: usize) -> Told
@@ -26,6 +27,7 @@ fn given(first: usize, second: usize) -> Told
         kind: 0,
         first,
         second,
+        third: 0,
     }
 }
 
@@ -42,6 +44,7 @@ fn refused(number: u8) -> Told
         kind: 1,
         first: number as usize,
         second: 0,
+        third: 0,
     }
 }
 

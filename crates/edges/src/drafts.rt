@@ -1,11 +1,10 @@
 // The drafts by their letters, under K = 8.
 ghost use Prim.Native.Nat.{_≤_};
 ghost use Rattle.words.specs.Definitions.{mostSections};
-use crate::text::front;
-use crate::text::number;
-use crate::text::refusal;
-use crate::text::text;
-use board::calls;
+use crate::print::front;
+use crate::print::number;
+use crate::print::refusal;
+use crate::print::text;
 use cells::Centre;
 use cells::PICKS;
 use cells::Place;
@@ -37,7 +36,7 @@ pub fn stored() -> Draft {
 
 // A draft of no picks.
 pub fn started() -> Draft {
-    let s = calls::start(stored(), 8);
+    let s = board::start(stored(), 8);
     let state = s.state;
     state
 }
@@ -58,7 +57,7 @@ pub fn say_fed(answer: FeedAnswer, visits: &[u16]) {
 // Feeds one pick, and prints the picks so far and the answer.
 fn one_more(draft: Draft, picks: &[u8], pick: u8) -> Draft {
     let mut visits = [0u16; VISITS];
-    let r = calls::feed(draft, pick, &mut visits);
+    let r = board::feed(draft, pick, &mut visits);
     text(picks);
     let answer = r.answer;
     say_fed(answer, &visits);
@@ -84,7 +83,7 @@ fn say_mask(draft: Draft) {
     let n = draft.n;
     text(b"mask of prefix");
     number(n);
-    let a = calls::mask(draft, Place(n));
+    let a = board::mask(draft, Place(n));
     match a {
         MaskAnswer::Mask(mask) => number(mask as usize),
         MaskAnswer::Refused(x) => refusal(x),
@@ -97,7 +96,7 @@ fn say_split(draft: Draft, k: u8, ends: &mut [u16]) {
     let n = draft.n;
     text(b"split into");
     number(k as usize);
-    let a = calls::split(draft, Place(n), k, ends);
+    let a = board::split(draft, Place(n), k, ends);
     match a {
         SplitAnswer::Split(turns) => {
             text(b" turns");
@@ -141,21 +140,21 @@ fn say_centre(a: CentreAnswer) {
 
 fn say_longest(draft: Draft) {
     text(b"longest ending at");
-    let a = calls::longest(draft);
+    let a = board::longest(draft);
     say_centre(a);
 }
 
 fn say_next(draft: Draft, c: usize) {
     text(b"next after");
     number(c);
-    let a = calls::next(draft, Centre(c));
+    let a = board::next(draft, Centre(c));
     say_centre(a);
 }
 
 fn say_radius(draft: Draft, c: usize) {
     text(b"radius at");
     number(c);
-    let a = calls::radius(draft, Centre(c));
+    let a = board::radius(draft, Centre(c));
     match a {
         RadiusAnswer::Radius(r) => number(r),
         RadiusAnswer::Refused(x) => refusal(x),
@@ -167,7 +166,7 @@ fn say_radius(draft: Draft, c: usize) {
 fn say_record(draft: Draft, output: &mut [u8]) {
     let n = draft.n;
     text(b"record");
-    let a = calls::fold(draft, Place(n), 2, output);
+    let a = board::fold(draft, Place(n), 2, output);
     match a {
         RecordAnswer::Written(bytes) => number(bytes),
         RecordAnswer::Refused(x) => refusal(x),

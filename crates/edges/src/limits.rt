@@ -2,9 +2,8 @@
 use crate::drafts::say_fed;
 use crate::drafts::started;
 use crate::drafts::stored;
-use crate::text::refusal;
-use crate::text::text;
-use board::calls;
+use crate::print::refusal;
+use crate::print::text;
 use cells::PICKS;
 use cells::VISITS;
 use promises::Draft;
@@ -15,7 +14,7 @@ fn full() -> Draft {
     let mut draft = started();
     for pick in 0..PICKS {
         let mut visits = [0u16; VISITS];
-        let r = calls::feed(draft, 65, &mut visits);
+        let r = board::feed(draft, 65, &mut visits);
         let state = r.state;
         draft = state;
     }
@@ -25,7 +24,7 @@ fn full() -> Draft {
 // Feeds a pick with this visit list, and prints the answer.
 fn say_feed(draft: Draft, pick: u8, visits: &mut [u16]) {
     text(b"feed");
-    let r = calls::feed(draft, pick, visits);
+    let r = board::feed(draft, pick, visits);
     let answer = r.answer;
     say_fed(answer, visits);
     text(b"\n");
@@ -34,7 +33,7 @@ fn say_feed(draft: Draft, pick: u8, visits: &mut [u16]) {
 // Starts with K, and prints the answer.
 fn say_start(k: u8) {
     text(b"start");
-    let s = calls::start(stored(), k);
+    let s = board::start(stored(), k);
     let answer = s.answer;
     match answer {
         StartAnswer::Begun => text(b" begun"),

@@ -1,7 +1,7 @@
 // Document 01's drafts at the edges, run through the calls with the state by value. What it prints is held to the file stdout.
 mod drafts;
 mod limits;
-mod text;
+mod print;
 
 fn main() {
     drafts::run();

@@ -1,12 +1,15 @@
 // Section 4, append: the core.
 ghost use Prim.Native.Nat.{_≤_, _<_};
 ghost use Rattle.words.specs.Definitions.{mostPicks, mostSections};
-ghost use Rattle.models.specs.Core.{arrays, after, Appends};
+ghost use Rattle.cells.specs.Lanes.{byCentre, byPlace};
+ghost use Rattle.models.specs.Core.{arraysIn, after, Appends};
 use crate::step::step;
-use cells::ByCentre;
-use cells::ByPlace;
 use cells::Centre;
+use cells::Centres;
 use cells::Letters;
+use cells::NEXT;
+use cells::Numbers;
+use cells::Places;
 
 // What one pick more gives beside the arrays: its row word, the count of its visits, the centre of the longest ending.
 pub struct Appended {
@@ -15,39 +18,27 @@ pub struct Appended {
     pub longest: Centre,
 }
 
-// One pick more after n of them, K = k. The lengths of its visits go to the front of the list.
+// One pick more after those that `held` tells. The lengths of its visits go to the front of the list.
 pub fn append(
     letters: &mut Letters,
-    radius: &mut ByCentre,
-    heads: &mut ByPlace,
-    lends: &mut ByCentre,
-    next: &mut ByCentre,
-    prev: &mut ByCentre,
-    rows: &mut ByPlace,
-    gathered: &mut ByPlace,
+    centres: &mut Centres,
+    places: &mut Places,
     visits: &mut [u16],
-    n: usize,
-    k: usize,
-    stored: Centre,
+    held: Numbers,
     pick: u8,
 ) -> Appended
-    requires { ⌜ (n < mostPicks) × (k ≤ mostSections) ⌝ }
-    ensures { λ r. ⌜ Appends k n pick
-        (arrays (now (letters .entry)) (now (radius .entry)) (now (heads .entry)) (now (lends .entry)) (now (next .entry)) (now (prev .entry)) (stored .0) (now (rows .entry)) (now (gathered .entry))) (now (visits .entry))
-        (after (arrays (now (letters .exit)) (now (radius .exit)) (now (heads .exit)) (now (lends .exit)) (now (next .exit)) (now (prev .exit)) (r .longest .0) (now (rows .exit)) (now (gathered .exit))) (now (visits .exit)) (r .row) (r .count)) ⌝ }
+    requires { ⌜ (held .n < mostPicks) × (held .k ≤ mostSections) ⌝ }
+    ensures { λ r. ⌜ Appends (held .k) (held .n) pick
+        (arraysIn (now (letters .entry)) (byCentre (now (centres .entry))) (byPlace (now (places .entry))) (held .longest .0)) (now (visits .entry))
+        (after (arraysIn (now (letters .exit)) (byCentre (now (centres .exit))) (byPlace (now (places .exit))) (r .longest .0)) (now (visits .exit)) (r .row) (r .count)) ⌝ }
 {
-    let longest = iterator::append::append(
-        letters,
-        radius,
-        heads,
-        lends,
-        next,
-        prev,
-        n,
-        stored,
-        pick,
-    );
-    let s = step(rows, gathered, next, visits, n + 1, k, longest);
+    let longest = iterator::append::append(letters, centres, places, held.n, held.longest, pick);
+    let new = Numbers {
+        n: held.n + 1,
+        k: held.k,
+        longest,
+    };
+    let s = step(&centres[NEXT], places, visits, new);
     Appended {
         row: s.row,
         count: s.count,

@@ -3,12 +3,16 @@ ghost use mathlib.Core.Path.{_≡_};
 ghost use Prim.Native.Nat.{_≤_, _<_, _^_, suc};
 ghost use Rattle.words.specs.Definitions.{mostPicks, mostSections};
 ghost use Rattle.words.specs.Computed.{raised};
+ghost use Rattle.cells.specs.Lanes.{byPlace};
 ghost use Rattle.models.specs.Engine.{longestLength, steppedAs, stepped};
 use crate::visits::visit_all;
 use cells::ByCentre;
-use cells::ByPlace;
 use cells::Centre;
+use cells::GATHERED;
+use cells::Numbers;
 use cells::Place;
+use cells::Places;
+use cells::ROWS;
 use cells::minus;
 use cells::narrow;
 use cells::smaller;
@@ -46,24 +50,17 @@ pub struct NewRow {
     pub count: usize,
 }
 
-// Prefix n, whose longest ending has the centre `longest`.
-pub fn step(
-    rows: &mut ByPlace,
-    gathered: &mut ByPlace,
-    next: &ByCentre,
-    visits: &mut [u16],
-    n: usize,
-    k: usize,
-    longest: Centre,
-) -> NewRow
-    requires { ⌜ (n ≤ mostPicks) × (k ≤ mostSections) ⌝ }
-    ensures { λ r. ⌜ steppedAs (now (rows .exit)) (now (gathered .exit)) (now (visits .exit)) (r .row) (r .count)
-        ≡ stepped k n (longest .0) (now (rows .entry)) (now (next .entry)) (now (gathered .entry)) (now (visits .entry)) ⌝ }
+// The prefix that `new` tells: its length, K and the centre of its longest ending.
+pub fn step(next: &ByCentre, places: &mut Places, visits: &mut [u16], new: Numbers) -> NewRow
+    requires { ⌜ (new .n ≤ mostPicks) × (new .k ≤ mostSections) ⌝ }
+    ensures { λ r. ⌜ steppedAs (byPlace (now (places .exit))) (now (visits .exit)) (r .row) (r .count)
+        ≡ stepped (new .k) (new .n) (new .longest .0) (byPlace (now (places .entry))) (now (next .entry)) (now (visits .entry)) ⌝ }
 {
-    let seen = visit_all(rows, gathered, next, visits, n, longest_length(n, longest));
-    let row = raised(seen.union, k);
-    store_at_place(rows, Place(n), row);
-    store_at_place(gathered, Place(n), row);
+    let length = longest_length(new.n, new.longest);
+    let seen = visit_all(next, places, visits, new.n, length);
+    let row = raised(seen.union, new.k);
+    store_at_place(places, ROWS, Place(new.n), row);
+    store_at_place(places, GATHERED, Place(new.n), row);
     NewRow {
         row,
         count: seen.count,

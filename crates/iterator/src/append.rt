@@ -3,16 +3,19 @@ ghost use mathlib.Core.Path.{_≡_};
 ghost use Prim.Native.Nat.{_+_, _*_, _<_};
 ghost use Rattle.words.specs.Definitions.{mostPicks};
 ghost use Rattle.models.specs.Answers.{AppendsLetter};
-ghost use Rattle.models.specs.Iterator.{iterator, lostPlace};
+ghost use Rattle.cells.specs.Lanes.{byCentre, byPlace, withHeads};
+ghost use Rattle.models.specs.Iterator.{lostPlace};
+ghost use Rattle.models.specs.Lanes.{iteratorIn};
 use crate::links::link;
 use crate::links::unlinks;
 use crate::reading::longest;
 use crate::scan::scan;
-use cells::ByCentre;
-use cells::ByPlace;
 use cells::Centre;
+use cells::Centres;
+use cells::HEADS;
 use cells::Letters;
 use cells::Place;
+use cells::Places;
 use cells::at_place;
 use cells::minus;
 use cells::store_letter;
@@ -29,25 +32,23 @@ fn lost_place(n: usize, s: Centre) -> Place
 // One letter more after n of them; the centre of the longest ending was `stored` and is what is returned.
 pub fn append(
     letters: &mut Letters,
-    radius: &mut ByCentre,
-    heads: &mut ByPlace,
-    lends: &mut ByCentre,
-    next: &mut ByCentre,
-    prev: &mut ByCentre,
+    centres: &mut Centres,
+    places: &mut Places,
     n: usize,
     stored: Centre,
     pick: u8,
 ) -> Centre
     requires { ⌜ n < mostPicks ⌝ }
     ensures { λ s. ⌜ AppendsLetter n pick
-        (iterator (now (letters .entry)) (now (radius .entry)) (now (heads .entry)) (now (lends .entry)) (now (next .entry)) (now (prev .entry)) (stored .0))
-        (iterator (now (letters .exit)) (now (radius .exit)) (now (heads .exit)) (now (lends .exit)) (now (next .exit)) (now (prev .exit)) (s .0)) ⌝ }
+        (iteratorIn (now (letters .entry)) (byCentre (now (centres .entry))) (byPlace (now (places .entry))) (stored .0))
+        (iteratorIn (now (letters .exit)) (byCentre (now (centres .exit))) (byPlace (now (places .exit))) (s .0)) ⌝ }
+    ensures rest { λ s. ⌜ byPlace (now (places .exit)) ≡ withHeads (byPlace (now (places .entry))) (byPlace (now (places .exit)) .heads) ⌝ }
 {
-    let s = scan(letters, radius, heads, lends, n, longest(n, stored), pick);
+    let s = scan(letters, centres, places, n, longest(n, stored), pick);
     store_letter(letters, Place(n), pick);
-    link(next, prev, Centre(2 * n + 1), Centre(2 * n + 2));
-    link(next, prev, Centre(2 * n + 2), Centre(2 * n + 3));
-    let head = at_place(heads, lost_place(n, s));
-    unlinks(lends, next, prev, s, Centre(wide(head)));
+    link(centres, Centre(2 * n + 1), Centre(2 * n + 2));
+    link(centres, Centre(2 * n + 2), Centre(2 * n + 3));
+    let head = at_place(&places[HEADS], lost_place(n, s));
+    unlinks(centres, s, Centre(wide(head)));
     s
 }

@@ -1,46 +1,47 @@
 // Section 3, append, lines 9 to 11: the list of the ending centres.
 ghost use mathlib.Core.Path.{_≡_};
 ghost use Prim.Native.Nat.{_<_};
-ghost use Rattle.models.specs.Iterator.{links, link, unlink, unlinks};
+ghost use Rattle.cells.specs.Lanes.{byCentre};
+ghost use Rattle.models.specs.IteratorCode.{linkIn, unlinkIn, unlinksIn};
 use crate::reflection::reflection;
-use cells::ByCentre;
 use cells::Centre;
+use cells::Centres;
+use cells::LENDS;
+use cells::NEXT;
+use cells::PREV;
 use cells::at_centre;
 use cells::narrow;
 use cells::store_at_centre;
 use cells::wide;
 
 // y comes after x.
-pub fn link(next: &mut ByCentre, prev: &mut ByCentre, x: Centre, y: Centre)
+pub fn link(centres: &mut Centres, x: Centre, y: Centre)
     requires { ⌜ (x .0 < 65536) × (y .0 < 65536) ⌝ }
-    ensures { λ r. ⌜ links (now (next .exit)) (now (prev .exit))
-        ≡ link (links (now (next .entry)) (now (prev .entry))) (x .0) (y .0) ⌝ }
+    ensures { λ r. ⌜ byCentre (now (centres .exit)) ≡ linkIn (byCentre (now (centres .entry))) (x .0) (y .0) ⌝ }
 {
-    store_at_centre(next, x, narrow(y.0));
-    store_at_centre(prev, y, narrow(x.0));
+    store_at_centre(centres, NEXT, x, narrow(y.0));
+    store_at_centre(centres, PREV, y, narrow(x.0));
 }
 
 // c goes out of the list.
-pub fn unlink(next: &mut ByCentre, prev: &mut ByCentre, c: Centre)
-    ensures { λ r. ⌜ links (now (next .exit)) (now (prev .exit))
-        ≡ unlink (links (now (next .entry)) (now (prev .entry))) (c .0) ⌝ }
+pub fn unlink(centres: &mut Centres, c: Centre)
+    ensures { λ r. ⌜ byCentre (now (centres .exit)) ≡ unlinkIn (byCentre (now (centres .entry))) (c .0) ⌝ }
 {
-    let before = at_centre(prev, c);
-    let after = at_centre(next, c);
-    store_at_centre(next, Centre(wide(before)), after);
-    store_at_centre(prev, Centre(wide(after)), before);
+    let before = at_centre(&centres[PREV], c);
+    let after = at_centre(&centres[NEXT], c);
+    store_at_centre(centres, NEXT, Centre(wide(before)), after);
+    store_at_centre(centres, PREV, Centre(wide(after)), before);
 }
 
 // Of each centre of the lend list from `head` on the reflection at s goes out of the list; 0 ends a lend list.
-pub fn unlinks(lends: &ByCentre, next: &mut ByCentre, prev: &mut ByCentre, s: Centre, head: Centre)
+pub fn unlinks(centres: &mut Centres, s: Centre, head: Centre)
     requires { ⌜ s .0 < 65536 ⌝ }
-    ensures { λ r. ⌜ links (now (next .exit)) (now (prev .exit))
-        ≡ unlinks (now (lends .entry)) (s .0) (head .0) (head .0) (links (now (next .entry)) (now (prev .entry))) ⌝ }
+    ensures { λ r. ⌜ byCentre (now (centres .exit)) ≡ unlinksIn (s .0) (head .0) (head .0) (byCentre (now (centres .entry))) ⌝ }
 {
     let mut x = head;
     while 0 < x.0 {
-        unlink(next, prev, reflection(x, s));
-        let y = Centre(wide(at_centre(lends, x)));
+        unlink(centres, reflection(x, s));
+        let y = Centre(wide(at_centre(&centres[LENDS], x)));
         if x.0 <= y.0 {
             return;
         }

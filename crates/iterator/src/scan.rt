@@ -2,19 +2,38 @@
 ghost use mathlib.Core.Path.{_≡_};
 ghost use Prim.Native.Nat.{_+_, _-_, _*_, _≤_, _<_};
 ghost use Rattle.words.specs.Definitions.{mostPicks};
-ghost use Rattle.models.specs.Iterator.{start, extends, scanned, scan};
-use crate::reflection::reflected_radius;
+ghost use Rattle.cells.specs.Lanes.{byCentre, byPlace};
+ghost use Rattle.models.specs.Iterator.{start, extends, reflectedRadius};
+ghost use Rattle.models.specs.Lanes.{moved};
+ghost use Rattle.models.specs.IteratorCode.{scanIn};
+use crate::reflection::reflection;
 use cells::ByCentre;
-use cells::ByPlace;
 use cells::Centre;
+use cells::Centres;
+use cells::HEADS;
+use cells::LENDS;
 use cells::Letters;
 use cells::Place;
-use cells::at_place;
+use cells::Places;
+use cells::RADIUS;
+use cells::centre_entry;
 use cells::letter_after;
 use cells::minus;
 use cells::narrow;
-use cells::store_at_centre;
-use cells::store_at_place;
+use cells::place_entry;
+use cells::put_centre_entry;
+use cells::put_place_entry;
+use cells::smaller;
+use cells::wide;
+
+// The radius at c, from `from` on and within the text, by reflection at `from`.
+fn radius_ahead(radius: &ByCentre, n: usize, from: Centre, c: Centre) -> usize
+    requires { ⌜ (n < mostPicks) × (from .0 ≤ 2 * n + 1) × (from .0 ≤ c .0) × (c .0 < 2 * n + 2) ⌝ }
+    ensures { λ r. ⌜ r ≡ reflectedRadius (now (radius .entry)) n (from .0) (c .0) ⌝ }
+{
+    let r = wide(centre_entry(radius, reflection(c, from)));
+    smaller(r, n - c.0 / 2)
+}
 
 // The place where a stretch of radius r at c starts.
 fn start(c: Centre, r: usize) -> Place
@@ -42,31 +61,31 @@ fn extends(letters: &Letters, n: usize, c: Centre, r: usize, pick: u8) -> bool
 // The loop of Manacher's kind: the centre of the longest ending moves on from `from` to where the new letter leaves one.
 pub fn scan(
     letters: &Letters,
-    radius: &mut ByCentre,
-    heads: &mut ByPlace,
-    lends: &mut ByCentre,
+    centres: &mut Centres,
+    places: &mut Places,
     n: usize,
     from: Centre,
     pick: u8,
 ) -> Centre
     requires { ⌜ (n < mostPicks) × (from .0 ≤ 2 * n + 1) ⌝ }
-    ensures { λ s. ⌜ scanned (s .0) (now (radius .exit)) (now (heads .exit)) (now (lends .exit))
-        ≡ scan (now (letters .entry)) n pick (from .0) (2 * n + 2 - from .0) (from .0) (now (radius .entry)) (now (heads .entry)) (now (lends .entry)) ⌝ }
+    ensures { λ s. ⌜ moved (s .0) (byCentre (now (centres .exit))) (byPlace (now (places .exit)))
+        ≡ scanIn (now (letters .entry)) n pick (from .0) (2 * n + 2 - from .0) (from .0) (byCentre (now (centres .entry))) (byPlace (now (places .entry))) ⌝ }
     ensures high { λ s. ⌜ s .0 ≤ 2 * n + 2 ⌝ }
 {
     let mut c = from;
     while c.0 < 2 * n + 2 {
-        let r = reflected_radius(radius, n, from, c);
+        let r = radius_ahead(&centres[RADIUS], n, from, c);
         if extends(letters, n, c, r, pick) {
-            store_at_centre(radius, c, narrow(r + 1));
+            put_centre_entry(centres, RADIUS, c, narrow(r + 1));
             return c;
         }
-        store_at_centre(radius, c, narrow(r));
+        put_centre_entry(centres, RADIUS, c, narrow(r));
         let i = start(c, r);
-        store_at_centre(lends, c, at_place(heads, i));
-        store_at_place(heads, i, narrow(c.0));
+        let lent = place_entry(&places[HEADS], i);
+        put_centre_entry(centres, LENDS, c, lent);
+        put_place_entry(places, HEADS, i, narrow(c.0));
         c = Centre(c.0 + 1);
     }
-    store_at_centre(radius, c, 0);
+    put_centre_entry(centres, RADIUS, c, 0);
     c
 }

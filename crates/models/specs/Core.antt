@@ -1,19 +1,20 @@
 -- Iterator and engine together: what the arrays hold, and what one pick more does to them.
-use mathlib.Core.Path.{_≡_, refl, sym, subst, _∙_}
+use mathlib.Core.Path.{_≡_, refl, sym, ap, subst, _∙_}
 use mathlib.Core.List.{List, [], _∷_, _++_, append-nil, append-assoc}
 use Prim.Native.Nat.{ℕ, suc, _+_, _≤_, _<_}
 use native.Mathlib.Omega.{arith}
 use lib.ListN.{length, drop, set, replicate, length-append, length-set, length-replicate, getD-replicate, List·getD-append}
 use lib.Seq.{sets, length-sets, drop-set-lt, getD-append-seam}
 use lib.Bits.{bitOr}
+use Rattle.cells.specs.Lanes.{centreEntries, placeEntries, ByCentre, ByPlace, withHeads}
 use Rattle.words.specs.Definitions.{mostPicks, mostVisits, word}
 use Rattle.words.specs.Computed.{longestCentre, visits, rowWord}
 use Rattle.words.specs.Prefixes.{Agree}
 use Rattle.models.specs.Centres.{longest-centre-at}
 use Rattle.models.specs.Iterator.{Iterator, iterator, appended}
 use Rattle.models.specs.Engine.{longestLength, walkAll, Stepped, stepped}
+use Rattle.models.specs.Lanes.{iteratorIn}
 use Rattle.models.specs.Stores.{at}
-use Rattle.models.specs.Scanning.{places, centres}
 use Rattle.models.specs.Walking.{tells, walk-nineteen}
 use Rattle.models.specs.Iterating.{Iterates, Cleared, keeps, rises, iterates-none}
 use Rattle.models.specs.Stepping.{Gathers, gathers-as, gathers-none, Steps, steps}
@@ -25,12 +26,15 @@ pub record Arrays : Type 0 where
   pub rows : List ℕ
   pub gathered : List ℕ
 
-abbrev pub arrays : List ℕ → List ℕ → List ℕ → List ℕ → List ℕ → List ℕ → ℕ → List ℕ → List ℕ → Arrays
-arrays letters radius heads lends next prev longest rows gathered = record {
-  iterator = iterator letters radius heads lends next prev longest;
-  rows = rows;
-  gathered = gathered;
-}
+-- from the lanes in which they are lent, and back
+abbrev pub arraysIn : List ℕ → ByCentre → ByPlace → ℕ → Arrays
+arraysIn letters v w s = record { iterator = iteratorIn letters v w s; rows = w .rows; gathered = w .gathered }
+
+abbrev pub centresIn : Arrays → ByCentre
+centresIn a = record { radius = a .iterator .radius; lends = a .iterator .lends; next = a .iterator .next; prev = a .iterator .prev }
+
+abbrev pub placesIn : Arrays → ByPlace
+placesIn a = record { heads = a .iterator .heads; rows = a .rows; gathered = a .gathered }
 
 -- the arrays hold the draft u under K
 pub record Holds (K : ℕ) (u : List ℕ) (a : Arrays) : Type 0 where
@@ -39,7 +43,7 @@ pub record Holds (K : ℕ) (u : List ℕ) (a : Arrays) : Type 0 where
   pub gathers : Gathers K (word u) (length u) (a .rows) (a .gathered)
 
 -- the empty draft
-pub holds-none : (K : ℕ) {a : Arrays} → Cleared (a .iterator) → length (a .rows) ≡ places → length (a .gathered) ≡ places
+pub holds-none : (K : ℕ) {a : Arrays} → Cleared (a .iterator) → length (a .rows) ≡ placeEntries → length (a .gathered) ≡ placeEntries
     → at (a .rows) 0 ≡ 1 → at (a .gathered) 0 ≡ 1 → Holds K [] a
 holds-none K h p q r s = record { fits = omega arith; iterates = iterates-none (word []) h; gathers = gathers-none K (word []) p q r s }
 
@@ -56,25 +60,37 @@ abbrev pub after : Arrays → List ℕ → ℕ → ℕ → After
 after a vs row count = record { arrays = a; visits = vs; row = row; count = count }
 
 abbrev pub joined : Iterator → Stepped → After
-joined t f = after (record { iterator = t; rows = f .rows; gathered = f .gathered }) (f .visits) (f .row) (f .count)
+joined t f = after (record { iterator = t; rows = f .placed .rows; gathered = f .placed .gathered }) (f .visits) (f .row) (f .count)
 
 -- n picks were there; vs is the visit list
 unfoldable pub append : ℕ → ℕ → ℕ → Arrays → List ℕ → After
 unfolding appended stepped
 append K n pick a vs =
     let t : Iterator = appended (a .iterator) n pick in
-    joined t (stepped K (suc n) (t .longest) (a .rows) (t .next) (a .gathered) vs)
+    joined t (stepped K (suc n) (t .longest) (withHeads (placesIn a) (t .heads)) (t .next) vs)
 
 -- nothing of the visit list is stored in the arrays
 pub append-arrays : (K n pick : ℕ) (a : Arrays) (vs : List ℕ) → append K n pick a vs .arrays ≡ append K n pick a [] .arrays
 unfolding append
 append-arrays K n pick a vs = refl
 
--- the code's way to it: m is n + 1
-pub append-as : (K n m pick : ℕ) (a : Arrays) (vs : List ℕ) (t : Iterator) (f : Stepped) → m ≡ n + 1 → t ≡ appended (a .iterator) n pick
-    → f ≡ stepped K m (t .longest) (a .rows) (t .next) (a .gathered) vs → joined t f ≡ append K n pick a vs
+joined-as : (K n m pick : ℕ) (a : Arrays) (vs : List ℕ) (t : Iterator) (f : Stepped) → m ≡ n + 1 → t ≡ appended (a .iterator) n pick
+    → f ≡ stepped K m (t .longest) (withHeads (placesIn a) (t .heads)) (t .next) vs → joined t f ≡ append K n pick a vs
 unfolding append
-append-as K n m pick a vs t f e g h = let z : m ≡ suc n = omega arith in rw (h, z, g)
+joined-as K n m pick a vs t f e g h = let z : m ≡ suc n = omega arith in rw (h, z, g)
+
+-- the code's way to it: m is n + 1; v' and w' are the lanes after the iterator's append, which leaves the rows and the gathered words
+pub append-as : (K n m pick stored s : ℕ) (letters letters' : List ℕ) (v v' : ByCentre) (w w' : ByPlace) (vs : List ℕ) (f : Stepped) → m ≡ n + 1
+    → iteratorIn letters' v' w' s ≡ appended (iteratorIn letters v w stored) n pick
+    → w' ≡ withHeads w (w' .heads)
+    → f ≡ stepped K m s w' (v' .next) vs
+    → after (arraysIn letters' v' (f .placed) s) (f .visits) (f .row) (f .count) ≡ append K n pick (arraysIn letters v w stored) vs
+unfolding append
+append-as K n m pick stored s letters letters' v v' w w' vs f e g k h =
+    let t : Iterator = iteratorIn letters' v' w' s in
+    ap (λ H. after (arraysIn letters' v' (withHeads (f .placed) H) s) (f .visits) (f .row) (f .count))
+    (ap (λ y. y .placed .heads) h)
+    ∙ joined-as K n m pick (arraysIn letters v w stored) vs t f e g (h ∙ ap (λ y. stepped K m s y (v' .next) vs) k)
 
 -- What it means: u is the draft with the pick
 
@@ -105,8 +121,8 @@ means K pick u a vs h small =
     let t : Iterator = appended (a .iterator) n pick in
     let i : Iterates w (suc n) t = keeps w n pick (a .iterator) (h .iterates) small (more-agree u pick) (getD-append-seam u pick [] 0) in
     let long = i .stretches .radii .longest in
-    let f : Steps K w (suc n) vs (stepped K (suc n) (t .longest) (a .rows) (t .next) (a .gathered) vs) =
-    steps K w n (t .longest) (a .rows) (t .next) (a .gathered) (gathers-as (more-agree u pick) (h .gathers)) small long
+    let f : Steps K w (suc n) vs (stepped K (suc n) (t .longest) (withHeads (placesIn a) (t .heads)) (t .next) vs) =
+    steps K w n (t .longest) (withHeads (placesIn a) (t .heads)) (t .next) (gathers-as (more-agree u pick) (h .gathers)) small long
     (tells (t .next) (i .chain .list) long) vs in
     let e : length (u ++ pick ∷ []) ≡ suc n = more-length u pick in
     record {
@@ -126,27 +142,31 @@ pub record Held (K : ℕ) (u : List ℕ) : Type 0 where
 
 -- no letter: all is 0 but the row word and the gathered word of place 0
 abbrev pub cleared : Arrays
-cleared =
-    arrays (replicate mostPicks 0) (replicate centres 0) (replicate places 0) (replicate centres 0) (replicate centres 0) (replicate centres 0) 1
-    (set (replicate places 0) 0 1) (set (replicate places 0) 0 1)
+cleared = record {
+  iterator =
+      iterator (replicate mostPicks 0) (replicate centreEntries 0) (replicate placeEntries 0) (replicate centreEntries 0) (replicate centreEntries 0)
+      (replicate centreEntries 0) 1;
+  rows = set (replicate placeEntries 0) 0 1;
+  gathered = set (replicate placeEntries 0) 0 1;
+}
 
 pub held-none : (K : ℕ) → Holds K [] cleared
 held-none K = holds-none K
     (record {
       size = length-replicate {A = ℕ} mostPicks 0;
-      radius = length-replicate {A = ℕ} centres 0;
-      heads = length-replicate {A = ℕ} places 0;
-      lends = length-replicate {A = ℕ} centres 0;
-      next = length-replicate {A = ℕ} centres 0;
-      prev = length-replicate {A = ℕ} centres 0;
+      radius = length-replicate {A = ℕ} centreEntries 0;
+      heads = length-replicate {A = ℕ} placeEntries 0;
+      lends = length-replicate {A = ℕ} centreEntries 0;
+      next = length-replicate {A = ℕ} centreEntries 0;
+      prev = length-replicate {A = ℕ} centreEntries 0;
       longest = refl;
-      none = getD-replicate {A = ℕ} centres 1 0 0 (omega arith);
-      clear = λ i l. getD-replicate {A = ℕ} places i 0 0 l;
+      none = getD-replicate {A = ℕ} centreEntries 1 0 0 (omega arith);
+      clear = λ i l. getD-replicate {A = ℕ} placeEntries i 0 0 l;
     })
     words words refl refl
   where
-    words : length {A = ℕ} (set (replicate places 0) 0 1) ≡ places
-    words = length-set {A = ℕ} (replicate places 0) 0 1 ∙ length-replicate {A = ℕ} places 0
+    words : length {A = ℕ} (set (replicate placeEntries 0) 0 1) ≡ placeEntries
+    words = length-set {A = ℕ} (replicate placeEntries 0) 0 1 ∙ length-replicate {A = ℕ} placeEntries 0
 
 held-more : (K x : ℕ) (u : List ℕ) → Held K u → length u < mostPicks → Held K (u ++ x ∷ [])
 held-more K x u h l = record { stored = append K (length u) x (h .stored) [] .arrays; holds = means K x u (h .stored) [] (h .holds) l .holds }

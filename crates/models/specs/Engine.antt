@@ -4,6 +4,7 @@ use Prim.Native.Nat.{ℕ, zero, suc, _+_, _-_, _*_, min}
 use lib.ListN.{getD, length, set}
 use lib.Seq.{sets}
 use lib.Bits.{bitOr}
+use Rattle.cells.specs.Lanes.{ByPlace, withRows, withGathered}
 use Rattle.words.specs.Definitions.{centre, nextLeading}
 use Rattle.words.specs.Computed.{mended, raised}
 use Rattle.models.specs.Iterator.{within}
@@ -37,39 +38,43 @@ module _ (op : ℕ → ℕ → ℕ) (R N : List ℕ) (n : ℕ) where
       let rest : Walked = walk k (nextLeading (suc x) p) (set G (n - suc x) v) (op a v) in
       walked (rest .gathered) (rest .union) (suc x ∷ rest .lengths)
 
--- the same, with the lengths stored into the visit list vs from entry c on, and their count
+-- the same in the lanes, with the lengths stored into the visit list vs from entry c on, and their count
 pub record Seen : Type 0 where
-  pub gathered : List ℕ
+  pub placed : ByPlace
   pub union : ℕ
   pub visits : List ℕ
   pub count : ℕ
 
-abbrev pub seenAs : List ℕ → ℕ → List ℕ → ℕ → Seen
-seenAs G a vs c = record { gathered = G; union = a; visits = vs; count = c }
+abbrev pub seenAs : ByPlace → ℕ → List ℕ → ℕ → Seen
+seenAs w a vs c = record { placed = w; union = a; visits = vs; count = c }
 
-abbrev pub seen : Walked → List ℕ → ℕ → Seen
-seen z vs c = seenAs (z .gathered) (z .union) (sets vs c (z .lengths)) (c + length (z .lengths))
+abbrev pub seen : ByPlace → Walked → List ℕ → ℕ → Seen
+seen w z vs c =
+    seenAs (withGathered w (z .gathered)) (z .union) (sets vs c (z .lengths)) (c + length (z .lengths))
 
 -- after a pick
 pub record Stepped : Type 0 where
-  pub rows : List ℕ
-  pub gathered : List ℕ
+  pub placed : ByPlace
   pub visits : List ℕ
   pub row : ℕ
   pub count : ℕ
 
-abbrev pub steppedAs : List ℕ → List ℕ → List ℕ → ℕ → ℕ → Stepped
-steppedAs R G vs row c = record { rows = R; gathered = G; visits = vs; row = row; count = c }
+abbrev pub steppedAs : ByPlace → List ℕ → ℕ → ℕ → Stepped
+steppedAs w vs row c = record { placed = w; visits = vs; row = row; count = c }
+
+-- x is the row word and the gathered word of place n
+abbrev pub worded : ByPlace → ℕ → ℕ → ByPlace
+worded w n x = withGathered (withRows w (set (w .rows) n x)) (set (w .gathered) n x)
 
 -- the new place n gets its row word, which is its gathered word too
-abbrev pub closed : ℕ → ℕ → List ℕ → Seen → Stepped
-closed K n R z = let x : ℕ = raised K (z .union) in steppedAs (set R n x) (set (z .gathered) n x) (z .visits) x (z .count)
+abbrev pub closed : ℕ → ℕ → Seen → Stepped
+closed K n z = let x : ℕ = raised K (z .union) in steppedAs (worded (z .placed) n x) (z .visits) x (z .count)
 
 -- prefix n, whose longest ending has the centre s
 unfoldable pub walkAll : ℕ → ℕ → List ℕ → List ℕ → List ℕ → Walked
 unfolding walk
 walkAll n s R N G = walk bitOr R N n (longestLength n s) (longestLength n s) G 0
 
-unfoldable pub stepped : ℕ → ℕ → ℕ → List ℕ → List ℕ → List ℕ → List ℕ → Stepped
+unfoldable pub stepped : ℕ → ℕ → ℕ → ByPlace → List ℕ → List ℕ → Stepped
 unfolding walkAll
-stepped K n s R N G vs = closed K n R (seen (walkAll n s R N G) vs 0)
+stepped K n s w N vs = closed K n (seen w (walkAll n s (w .rows) N (w .gathered)) vs 0)

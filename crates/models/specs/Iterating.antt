@@ -7,6 +7,7 @@ use native.Mathlib.Omega.{arith}
 use native.Mathlib.Decide.{decLe, decLt, ℕ-discrete}
 use lib.ListN.{length, length-set}
 use borrow.Author.Tests.{le-leb, lt-leb, eq-eqb, ne-eqb}
+use Rattle.cells.specs.Lanes.{centreEntries, placeEntries}
 use Rattle.words.specs.Definitions.{mostPicks}
 use Rattle.words.specs.Prefixes.{Agree, agree-back}
 use Rattle.words.specs.Computed.{longestCentre, radiusAt}
@@ -15,7 +16,7 @@ use Rattle.models.specs.Reflection.{StartsAt, empty-at}
 use Rattle.models.specs.Linked.{linked-as, linked-from}
 use Rattle.models.specs.Iterator.{Iterator, radiusOf, longestOf, lastCentre, isEnding, Scanned, links, unlinks, scanOf, lengthened, lostPlace, lostHead, appended}
 use Rattle.models.specs.Stores.{at, set-here, set-there}
-use Rattle.models.specs.Scanning.{centres, places, LastWith, Radii, Stretches, stretches-as, scan-begin, Found, scan-right, reflected-widest}
+use Rattle.models.specs.Scanning.{LastWith, Radii, Stretches, stretches-as, scan-begin, Found, scan-right, reflected-widest}
 use Rattle.models.specs.Unlinking.{Chain, Old, lengthens, left-begin, unlinks-right}
 
 -- the arrays hold the first n letters of w
@@ -98,14 +99,14 @@ module _ {w : ℕ → ℕ} (v : ℕ → ℕ) (n pick : ℕ) (t : Iterator) (h : 
 -- arrays whose heads are all 0, whose first radius is 0 and whose centre is 1 hold no letter
 pub record Cleared (t : Iterator) : Type 0 where
   pub size : length (t .letters) ≡ mostPicks
-  pub radius : length (t .radius) ≡ centres
-  pub heads : length (t .heads) ≡ places
-  pub lends : length (t .lends) ≡ centres
-  pub next : length (t .next) ≡ centres
-  pub prev : length (t .prev) ≡ centres
+  pub radius : length (t .radius) ≡ centreEntries
+  pub heads : length (t .heads) ≡ placeEntries
+  pub lends : length (t .lends) ≡ centreEntries
+  pub next : length (t .next) ≡ centreEntries
+  pub prev : length (t .prev) ≡ centreEntries
   pub longest : t .longest ≡ 1
   pub none : at (t .radius) 1 ≡ 0
-  pub clear : (i : ℕ) → i < places → at (t .heads) i ≡ 0
+  pub clear : (i : ℕ) → i < placeEntries → at (t .heads) i ≡ 0
 
 pub iterates-none : (w : ℕ → ℕ) {t : Iterator} → Cleared t → Iterates w 0 t
 iterates-none w {t} h =

@@ -4,6 +4,7 @@ pub mod Answers
 -- what is computed
 pub mod Iterator
 pub mod Engine
+pub mod Lanes
 -- endings by their centres
 pub mod Centres
 pub mod Reflection
@@ -18,5 +19,6 @@ pub mod Walking
 pub mod Stepping
 pub mod Splitting
 -- how code meets model
-pub mod Turns
-pub mod SplitTurns
+pub mod IteratorCode
+pub mod EngineCode
+pub mod SplitCode

@@ -6,19 +6,13 @@ use Prim.Native.Nat.{ℕ, zero, suc, _+_, _*_, _-_, _/_, _≤_, _<_}
 use native.Mathlib.Omega.{arith}
 use native.Mathlib.Decide.{ℕ-discrete}
 use lib.ListN.{length, set, length-set}
+use Rattle.cells.specs.Lanes.{centreEntries, placeEntries}
 use Rattle.words.specs.Definitions.{mostPicks, Largest}
 use Rattle.words.specs.Prefixes.{Agree, agree-back}
 use Rattle.models.specs.Centres.{EndingAt, Widest, LongestEndingAt, widest-one, widest-as, longest-at-as}
 use Rattle.models.specs.Reflection.{StartsAt, narrower, widest-reflect, goes-on, went-on, stays, stayed, single-at, starts-as}
 use Rattle.models.specs.Iterator.{start, reflectedRadius, extends, Scanned, scanned, scan}
 use Rattle.models.specs.Stores.{at, set-here, set-there, Extends, extends-true, extends-false}
-
--- how many numbers an array by place or by centre has
-abbrev pub places : ℕ
-places = mostPicks + 1
-
-abbrev pub centres : ℕ
-centres = 2 * mostPicks + 2
 
 -- v is the largest number below s that has P, 0 where none has
 abbrev pub LastWith : (ℕ → Type 0) → ℕ → ℕ → Type 0
@@ -35,13 +29,13 @@ pub record Radii (w : ℕ → ℕ) (n s : ℕ) (R : List ℕ) : Type 0 where
 
 -- the lend lists of the centres below s: "lend[i] = {x : x < s and ⌈x⌉ - rad(x) = i + 1}"
 pub record Lends (w : ℕ → ℕ) (n s : ℕ) (H L : List ℕ) : Type 0 where
-  pub head : (i : ℕ) → i < places → LastWith (StartsAt w n i) s (at H i)
+  pub head : (i : ℕ) → i < placeEntries → LastWith (StartsAt w n i) s (at H i)
   pub rest : (x i : ℕ) → x < s → StartsAt w n i x → LastWith (StartsAt w n i) x (at L x)
 
 pub record Sizes (R H L : List ℕ) : Type 0 where
-  pub radius : length R ≡ centres
-  pub heads : length H ≡ places
-  pub lends : length L ≡ centres
+  pub radius : length R ≡ centreEntries
+  pub heads : length H ≡ placeEntries
+  pub lends : length L ≡ centreEntries
 
 -- the invariant but for the list of the ending centres
 pub record Stretches (w : ℕ → ℕ) (n s : ℕ) (R H L : List ℕ) : Type 0 where
@@ -131,7 +125,7 @@ module _ (w : ℕ → ℕ) (letters : List ℕ) (n pick from : ℕ) (small : n <
               ∙ new;
         })
 
-  -- a turn that goes on keeps it
+  -- going on keeps it
   module _ {c i : ℕ} (r : ℕ) {R H L : List ℕ} (h : ScanAt w n from c R H L) (g : Widest w (suc n) c (c / 2 + r)) (was : Widest w n c (c / 2 + r))
       (e : i ≡ start c r)
       (out : EndingAt w (suc n) c → ⊥) where
@@ -144,14 +138,14 @@ module _ (w : ℕ → ℕ) (letters : List ℕ) (n pick from : ℕ) (small : n <
     starts : StartsAt w (suc n) i c
     starts = record { end = c / 2 + r; sum = omega (arith, g .is .low, g .is .high); widest = g }
 
-    i-small : i < places
+    i-small : i < placeEntries
     i-small = omega (arith, g .is .low, g .is .high, c-small)
 
     only : (j : ℕ) → StartsAt w (suc n) j c → j ≡ i
     only j x = omega (arith, x .sum, starts .sum, widest-one (x .widest) g)
 
-    turn-lends : Lends w (suc n) (c + 1) (set H i c) (set L c (at H i))
-    turn-lends = record {
+    kept-lends : Lends w (suc n) (c + 1) (set H i c) (set L c (at H i))
+    kept-lends = record {
       head = λ j x. elim (ℕ-discrete j i) [
         | yes z ↦ rw (z, set-here H i c (omega (arith, h .sizes .heads, i-small)))
             (record { below = omega arith; is = λ _. starts; most = λ y p q. omega arith })
@@ -174,8 +168,8 @@ module _ (w : ℕ → ℕ) (letters : List ℕ) (n pick from : ℕ) (small : n <
       ];
     }
 
-    scan-turn : ScanAt w n from (c + 1) (set R c r) (set H i c) (set L c (at H i))
-    scan-turn = record {
+    scan-kept : ScanAt w n from (c + 1) (set R c r) (set H i c) (set L c (at H i))
+    scan-kept = record {
       sizes = record {
         radius = length-set R c r ∙ h .sizes .radius;
         heads = length-set H i c ∙ h .sizes .heads;
@@ -193,7 +187,7 @@ module _ (w : ℕ → ℕ) (letters : List ℕ) (n pick from : ℕ) (small : n <
         | yes z ↦ rw (z, here) g
         | no z ↦ rw (set-there R c d r z) (h .widest d x (omega arith))
       ];
-      lends = turn-lends;
+      lends = kept-lends;
     }
 
   -- the scan stops at c
@@ -225,7 +219,7 @@ module _ (w : ℕ → ℕ) (letters : List ℕ) (n pick from : ℕ) (small : n <
   scan-right (suc k) {c} {R} {H} {L} h b e =
       let was : Widest w n c (c / 2 + reflectedRadius R n from c) = reflected-widest R c ends (h .old) b (omega arith) in
       both (extends letters n c (reflectedRadius R n from c) pick) refl was
-      (λ out. scan-right k (scan-turn (reflectedRadius R n from c) h (stays was out) was refl out) (omega arith) (omega arith))
+      (λ out. scan-right k (scan-kept (reflectedRadius R n from c) h (stays was out) was refl out) (omega arith) (omega arith))
     where
       both : (t : Bool) → extends letters n c (reflectedRadius R n from c) pick ≡ t → Widest w n c (c / 2 + reflectedRadius R n from c)
           → ((EndingAt w (suc n) c → ⊥)

@@ -7,6 +7,7 @@ use native.Mathlib.Decide.{ℕ-discrete}
 use lib.ListN.{length, drop, length-set}
 use lib.Seq.{sets-eq}
 use lib.Bits.{bitOr}
+use Rattle.cells.specs.Lanes.{placeEntries, ByPlace}
 use Rattle.words.specs.Definitions.{mostPicks, LongestEnding}
 use Rattle.words.specs.Search.{passing-skip}
 use Rattle.words.specs.Computed.{leading?, visits, rowWord, gathered, gatheredWord, joinAll, raised}
@@ -18,13 +19,12 @@ use Rattle.words.specs.Prefixes.{Agree, row-as, gathered-word-as}
 use Rattle.models.specs.Centres.{LongestEndingAt}
 use Rattle.models.specs.Engine.{longestLength, Walked, walkAll, Stepped, stepped}
 use Rattle.models.specs.Stores.{at, set-here, set-there}
-use Rattle.models.specs.Scanning.{places}
 use Rattle.models.specs.Walking.{Tells, longest-length, WalkAt, WalkRight, walk-right, walk-length}
 
 -- the arrays hold the row word and the gathered word of every place up to n
 pub record Gathers (K : ℕ) (w : ℕ → ℕ) (n : ℕ) (R G : List ℕ) : Type 0 where
-  pub sizeRows : length R ≡ places
-  pub sizeGathered : length G ≡ places
+  pub sizeRows : length R ≡ placeEntries
+  pub sizeGathered : length G ≡ placeEntries
   pub rows : (i : ℕ) → i ≤ n → at R i ≡ rowWord K w i
   pub all : (i : ℕ) → i ≤ n → at G i ≡ gatheredWord K w n i
 
@@ -37,7 +37,7 @@ gathers-as {K} {n = n} f h = record {
 }
 
 -- no letter: the one place has the row word 1
-pub gathers-none : (K : ℕ) (w : ℕ → ℕ) {R G : List ℕ} → length R ≡ places → length G ≡ places → at R 0 ≡ 1 → at G 0 ≡ 1 → Gathers K w 0 R G
+pub gathers-none : (K : ℕ) (w : ℕ → ℕ) {R G : List ℕ} → length R ≡ placeEntries → length G ≡ placeEntries → at R 0 ≡ 1 → at G 0 ≡ 1 → Gathers K w 0 R G
 unfolding gatheredWord
 gathers-none K w p q r s = record {
   sizeRows = p;
@@ -48,13 +48,13 @@ gathers-none K w p q r s = record {
 
 -- what a step leaves, for prefix n
 pub record Steps (K : ℕ) (w : ℕ → ℕ) (n : ℕ) (before : List ℕ) (f : Stepped) : Type 0 where
-  pub gathers : Gathers K w n (f .rows) (f .gathered)
+  pub gathers : Gathers K w n (f .placed .rows) (f .placed .gathered)
   pub row : f .row ≡ rowWord K w n
   pub count : f .count ≡ length (visits w n)
   pub list : f .count ≤ length before → f .visits ≡ visits w n ++ drop (f .count) before
 
 -- w has m + 1 letters or more; s is the centre of the longest ending of the first m + 1
-module _ (K : ℕ) (w : ℕ → ℕ) (m s : ℕ) (R N G : List ℕ) (h : Gathers K w m R G) (small : m < mostPicks) (long : LongestEndingAt w (suc m) s)
+module _ (K : ℕ) (w : ℕ → ℕ) (m s : ℕ) (v : ByPlace) (N : List ℕ) (h : Gathers K w m (v .rows) (v .gathered)) (small : m < mostPicks) (long : LongestEndingAt w (suc m) s)
     (t : Tells w (suc m) N) where
   len : ℕ
   len = longestLength (suc m) s
@@ -64,9 +64,9 @@ module _ (K : ℕ) (w : ℕ → ℕ) (m s : ℕ) (R N G : List ℕ) (h : Gathers
   longest = longest-length long
 
   z : Walked
-  z = walkAll (suc m) s R N G
+  z = walkAll (suc m) s (v .rows) N (v .gathered)
 
-  walk-begin : WalkAt bitOr (rowWord K w) w m R N (h .rows) t len G
+  walk-begin : WalkAt bitOr (rowWord K w) w m (v .rows) N (h .rows) t len (v .gathered)
   unfolding gatheredWord
   walk-begin = record {
     size = omega (arith, h .sizeGathered);
@@ -75,9 +75,9 @@ module _ (K : ℕ) (w : ℕ → ℕ) (m s : ℕ) (R N G : List ℕ) (h : Gathers
     todo = λ i l g. h .all i g;
   }
 
-  walked-right : WalkRight bitOr (rowWord K w) w m R N (h .rows) t len 0 z
+  walked-right : WalkRight bitOr (rowWord K w) w m (v .rows) N (h .rows) t len 0 z
   unfolding z len walkAll
-  walked-right = walk-right bitOr (rowWord K w) w m R N (h .rows) t len len G 0 (omega arith) (longest-leads longest) walk-begin
+  walked-right = walk-right bitOr (rowWord K w) w m (v .rows) N (h .rows) t len len (v .gathered) 0 (omega arith) (longest-leads longest) walk-begin
 
   lengths-right : z .lengths ≡ visits w (suc m)
   unfolding visits
@@ -91,18 +91,18 @@ module _ (K : ℕ) (w : ℕ → ℕ) (m s : ℕ) (R N G : List ℕ) (h : Gathers
       ∙ sym (row-law w m K)
 
   -- every row word and every gathered word, visited or not, is that of the longer prefix
-  pub steps : (before : List ℕ) → Steps K w (suc m) before (stepped K (suc m) s R N G before)
+  pub steps : (before : List ℕ) → Steps K w (suc m) before (stepped K (suc m) s v N before)
   unfolding stepped gatheredWord z walkAll len
   steps before =
       let x : ℕ = raised K (z .union) in
-      let size : length (z .gathered) ≡ places = walk-length bitOr R N (suc m) len len G 0 ∙ h .sizeGathered in
+      let size : length (z .gathered) ≡ placeEntries = walk-length bitOr (v .rows) N (suc m) len len (v .gathered) 0 ∙ h .sizeGathered in
       record {
         gathers = record {
-          sizeRows = omega (arith, length-set R (suc m) x, h .sizeRows);
+          sizeRows = omega (arith, length-set (v .rows) (suc m) x, h .sizeRows);
           sizeGathered = omega (arith, length-set (z .gathered) (suc m) x, size);
           rows = λ i l. elim (ℕ-discrete i (suc m)) [
-            | yes e ↦ rw e (set-here R (suc m) x (omega (arith, h .sizeRows)) ∙ row-right)
-            | no e ↦ set-there R (suc m) i x e ∙ h .rows i (omega arith)
+            | yes e ↦ rw e (set-here (v .rows) (suc m) x (omega (arith, h .sizeRows)) ∙ row-right)
+            | no e ↦ set-there (v .rows) (suc m) i x e ∙ h .rows i (omega arith)
           ];
           all = λ i l. elim (ℕ-discrete i (suc m)) [
             | yes e ↦ rw e (set-here (z .gathered) (suc m) x (omega (arith, size)) ∙ row-right ∙ sym (gathered-own bitOr (rowWord K w) w (suc m)))

@@ -9,6 +9,7 @@ use native.Mathlib.Nat.{zero-add, add-zero}
 use lib.ListN.{getD, length, drop, set}
 use lib.Seq.{getD-set-same, getD-set-other, sets, sets-eq}
 use borrow.Author.Tests.{lt-ltb, le-ltb, eq-eqb, ne-eqb}
+use Rattle.words.specs.Cases.{clash}
 use Rattle.models.specs.Iterator.{start, extends}
 
 -- the numbers of the arrays
@@ -39,15 +40,15 @@ module _ (letters : List ℕ) (n c r pick : ℕ) where
 
   pub extends-true : extends letters n c r pick ≡ true → Extends
   extends-true h = elim (ℕ-discrete (c / 2 + r) n) [
-    | no x ↦ let z : _≡_ {A = ℕ} 0 1 = cc (simp (ne-eqb _ _ x) at h) in absurd (omega arith)
+    | no x ↦ clash (cc (simp (ne-eqb _ _ x) at h))
     | yes x ↦ elim (decLt 0 (start c r)) [
-      | no y ↦ let z : _≡_ {A = ℕ} 0 1 = cc (simp (eq-eqb _ _ x, le-ltb 0 (start c r) (omega arith)) at h) in absurd (omega arith)
+      | no y ↦ clash (cc (simp (eq-eqb _ _ x, le-ltb 0 (start c r) (omega arith)) at h))
       | yes y ↦ elim (ℕ-discrete (at letters (start c r - 1)) pick) [
-        | no z ↦ let q : _≡_ {A = ℕ} 0 1 = cc (simp (eq-eqb _ _ x, lt-ltb _ _ y, ne-eqb _ _ z) at h) in absurd (omega arith)
+        | no z ↦ clash (cc (simp (eq-eqb _ _ x, lt-ltb _ _ y, ne-eqb _ _ z) at h))
         | yes z ↦ record { closes = x; inside = y; same = z }
       ]
     ]
   ]
 
   pub extends-false : extends letters n c r pick ≡ false → Extends → ⊥
-  extends-false h m = let q : _≡_ {A = ℕ} 0 1 = cc (simp (eq-eqb _ _ (m .closes), lt-ltb _ _ (m .inside), eq-eqb _ _ (m .same)) at h) in omega arith
+  extends-false h m = clash (cc (simp (eq-eqb _ _ (m .closes), lt-ltb _ _ (m .inside), eq-eqb _ _ (m .same)) at h))

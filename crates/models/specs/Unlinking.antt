@@ -6,18 +6,19 @@ use native.Mathlib.Omega.{arith}
 use native.Mathlib.Decide.{decLt, ℕ-discrete}
 use lib.ListN.{length, set, length-set}
 use borrow.Author.Tests.{lt-ltb}
+use Rattle.cells.specs.Lanes.{centreEntries}
 use Rattle.words.specs.Definitions.{mostPicks}
 use Rattle.models.specs.Centres.{EndingAt}
 use Rattle.models.specs.Reflection.{StartsAt, Lost, starts-lost, lost-starts, narrower, single-at, empty-at}
 use Rattle.models.specs.Linked.{Linked, Fore, Aft, linked-as, linked-more, linked-less}
 use Rattle.models.specs.Iterator.{reflectedRadius, Links, lostCentre, unlink, unlinks, lengthened}
 use Rattle.models.specs.Stores.{at, set-here, set-there}
-use Rattle.models.specs.Scanning.{centres, LastWith, Radii, Stretches, reflected-widest}
+use Rattle.models.specs.Scanning.{LastWith, Radii, Stretches, reflected-widest}
 
 -- the two arrays link the centres that have Q, from lo to hi
 pub record Chain (Q : ℕ → Type 0) (lo hi : ℕ) (l : Links) : Type 0 where
-  pub next : length (l .next) ≡ centres
-  pub prev : length (l .prev) ≡ centres
+  pub next : length (l .next) ≡ centreEntries
+  pub prev : length (l .prev) ≡ centreEntries
   pub list : Linked (at (l .next)) (at (l .prev)) Q lo hi
 
 -- it can be told from the radii which centres are endings'
@@ -45,8 +46,8 @@ lengthens {w} {n} {s} {l} small h =
     let P : List ℕ = l .prev in
     let N₁ : List ℕ = set N (2 * n + 1) (2 * n + 2) in
     let P₁ : List ℕ = set P (2 * n + 2) (2 * n + 1) in
-    let a : length N₁ ≡ centres = length-set N (2 * n + 1) (2 * n + 2) ∙ h .next in
-    let b : length P₁ ≡ centres = length-set P (2 * n + 2) (2 * n + 1) ∙ h .prev in
+    let a : length N₁ ≡ centreEntries = length-set N (2 * n + 1) (2 * n + 2) ∙ h .next in
+    let b : length P₁ ≡ centreEntries = length-set P (2 * n + 2) (2 * n + 1) ∙ h .prev in
     record {
       next = length-set N₁ (2 * n + 2) (2 * n + 3) ∙ a;
       prev = length-set P₁ (2 * n + 3) (2 * n + 2) ∙ b;

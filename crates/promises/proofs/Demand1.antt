@@ -1,42 +1,37 @@
 -- Demand 1: the refusals, on any state whatever and in every run; show and lift.
 use mathlib.Core.Path.{_≡_, refl, sym, ap, ap₂, subst, _∙_}
-use mathlib.Core.Bool.{Bool, true, false, cond}
 use mathlib.Core.Logic.{_≢_}
-use mathlib.Core.List.{List, [], _∷_, _++_, append-assoc, List·Memᴰ, List·Memᴰ·head, List·Memᴰ·tail}
-use mathlib.Core.Option.{Option, some, none}
+use mathlib.Core.List.{List, [], _∷_, _++_, append-assoc, List·Memᴰ}
 use Prim.Native.Nat.{ℕ, _-_}
 use native.Mathlib.Omega.{arith}
 use native.Mathlib.Decide.{ℕ-discrete}
-use lib.Dec.{leb}
 use lib.ListN.{length, take, drop, getD, length-drop, take-append-drop}
 use lib.Seq.{length-take-le}
-use Rattle.words.specs.Definitions.{word}
 use Rattle.models.specs.Core.{After, append}
 use Rattle.promises.specs.declared.Draft.{Draft}
+use Rattle.promises.specs.declared.Started.{Started}
 use Rattle.promises.specs.declared.Fed.{Fed}
-use Rattle.promises.specs.Answers.{gave, refused, Reply, reply, feedSays, liftSays, filled}
+use Rattle.promises.specs.Answers.{gave, refused, Reply, reply, startSays, feedSays, liftSays}
 use Rattle.promises.specs.Refusals.{startRefusal, feedRefusal, showRefusal, liftRefusal}
-use Rattle.promises.specs.Record.{recordOf, sectionOf}
+use Rattle.promises.specs.Record.{sectionOf}
 use Rattle.promises.specs.Lifts.{lift}
-use Rattle.promises.specs.Book.{Book, Call, lent, bookOf}
-use Rattle.promises.specs.Replies.{unless, orNoSplit, orNoEnding, orTooLong, startReply, maskReply, radiusReply, longestReply, nextReply, splitReply, recordReply, shown, liftReply, refusalOf, replyTo}
+use Rattle.promises.specs.Book.{Book, Query, Call, start, feed, ask, lent, blank, bookOf}
+use Rattle.promises.specs.Replies.{unless, gives, refusalOf, foundFor, replyTo, shown, liftReply}
 use Rattle.promises.specs.Listed.{Line, First, NoneMet, listed, sought, showLines, liftLines}
 use Rattle.promises.specs.Says.{PartOf}
-use Rattle.promises.specs.Taking.{unless-zero, unless-not}
-use Rattle.promises.specs.Showing.{part-fits}
+use Rattle.promises.specs.BookLaws.{unless-zero, unless-not}
+use Rattle.promises.specs.ShowLaws.{part-fits}
 use Rattle.promises.specs.State.{arraysOf}
-use Rattle.promises.specs.Promises.{maskByte, nextHeld, splitHeld, FeedPromise, ShowPromise}
-use Rattle.promises.specs.Runs.{Made, started, fed, splitted, longestAsked, maskAsked, radiusAsked, nextAsked, folded, callOf, calls, replyOf, Meets, leaves}
+use Rattle.promises.specs.Promises.{maskByte, foundIn, computedTo, StartPromise, FeedPromise, Reads, ShowPromise}
+use Rattle.promises.specs.Runs.{Made, started, fed, asked, callOf, calls, replyOf, Meets, leaves}
 use Rattle.promises.specs.Demands.{soughtNumbers, Demand1Holds, Answered, Demand1RunHolds, ShowRight, ShowHolds, LiftRight, LiftHolds}
 use Rattle.promises.proofs.Keeping.{gave-accepted, said-is, replied-at}
-use Rattle.promises.proofs.Listing.{Tested, hit, clear, first-one, first-none, listed-tested, show-tested, lift-tested}
+use Rattle.promises.proofs.Listing.{Tested, hit, clear, first-one, first-none, show-tested, lift-tested}
+use Rattle.promises.proofs.Finding.{OnlyUnder, gave-only}
+use Rattle.promises.proofs.Calls.{listed-tested, found-only}
 use Rattle.promises.proofs.Answering.{answered}
 
 -- On any state: a reply by the call's number, and by what is found where that is 0
-
--- a reply that refuses under these numbers only, and then keeps its list
-abbrev OnlyUnder : (list numbers : List ℕ) → Reply → Type 0
-OnlyUnder list numbers r = (number : ℕ) → r .said ≡ refused number → (r .list ≡ list) × List·Memᴰ number numbers
 
 pub record ByNumber (number : ℕ) (list numbers : List ℕ) (r : Reply) : Type 0 where
   pub found : Reply
@@ -59,33 +54,21 @@ module _ {number : ℕ} {list numbers : List ℕ} {r : Reply} (h : ByNumber numb
     | no f ↦ ap (λ y. y .list) (h .is ∙ unless-not number list (h .found) f)
   ]
 
-gave-only : (l list after numbers : List ℕ) → OnlyUnder list numbers (reply (gave l) after)
-gave-only l list after numbers number e = absurd (gave-accepted refl number e)
+start-numbered : {d : Draft} {K : ℕ} {r : Started} → StartPromise d K r
+    → ByNumber (refusalOf (d .n) (d .k) (start K)) (lent (start K)) (soughtNumbers (start K)) (reply (startSays (r .answer)) [])
+unfolding replyTo refusalOf lent foundFor sought
+start-numbered p = record { found = gives []; is = p .says blank; only = gave-only [] [] [] [] }
 
-refused-only : (x : ℕ) (list numbers : List ℕ) → List·Memᴰ x numbers → OnlyUnder list numbers (reply (refused x) list)
-refused-only x list numbers h number e = let z : x ≡ number = cc in (refl, rw (← z) h)
+query-numbered : {d : Draft} {q : Query} {r : Reply} → Reads d q r
+    → ByNumber (refusalOf (d .n) (d .k) (ask q)) (lent (ask q)) (soughtNumbers (ask q)) r
+unfolding computedTo
+query-numbered {d} {q} p = record { found = foundIn d q; is = p .computes; only = found-only d q }
 
-no-split-only : (o : Option (List ℕ)) (list numbers : List ℕ) (f : List ℕ → Reply) → ((ends : List ℕ) → OnlyUnder list (9 ∷ numbers) (f ends))
-    → OnlyUnder list (9 ∷ numbers) (orNoSplit o list f)
-unfolding orNoSplit
-no-split-only none list numbers f g = refused-only 9 list (9 ∷ numbers) (List·Memᴰ·head refl)
-no-split-only (some ends) list numbers f g = g ends
-
-no-ending-only : (o : Option ℕ) → OnlyUnder [] (10 ∷ []) (reply (orNoEnding o) [])
-no-ending-only none = refused-only 10 [] (10 ∷ []) (List·Memᴰ·head refl)
-no-ending-only (some c) = gave-only (c ∷ []) [] [] (10 ∷ [])
-
-too-long-only : (bytes output : List ℕ) → OnlyUnder output (9 ∷ 5 ∷ []) (orTooLong bytes output)
-unfolding orTooLong
-too-long-only bytes output = go (leb (length bytes) (length output))
-  where
-    go : (b : Bool) → OnlyUnder output (9 ∷ 5 ∷ []) (cond b (reply (gave (length bytes ∷ [])) (filled bytes output)) (reply (refused 5) output))
-    go true = gave-only (length bytes ∷ []) output (filled bytes output) (9 ∷ 5 ∷ [])
-    go false = refused-only 5 output (9 ∷ 5 ∷ []) (List·Memᴰ·tail (List·Memᴰ·head refl))
-
-fed-numbered : {d : Draft} {pick : ℕ} {before : List ℕ} {r : Fed} {after : List ℕ} → FeedPromise d pick before r after
-    → ByNumber (feedRefusal (d .n) (d .k) pick (length before)) before [] (reply (feedSays (r .answer)) after)
-fed-numbered {d} {pick} {before} {r} {after} p = record {
+feed-numbered : {d : Draft} {pick : ℕ} {before : List ℕ} {r : Fed} {after : List ℕ} → FeedPromise d pick before r after
+    → ByNumber (refusalOf (d .n) (d .k) (feed pick before)) (lent (feed pick before)) (soughtNumbers (feed pick before))
+    (reply (feedSays (r .answer)) after)
+unfolding refusalOf lent sought
+feed-numbered {d} {pick} {before} {r} {after} p = record {
   found = reply (gave values) (z .visits);
   is = elim (ℕ-discrete number 0) [
     | yes q ↦ let c = p .computes q in ap₂ reply (c .says) (c .list) ∙ sym (unless-zero number before _ q)
@@ -105,36 +88,18 @@ fed-numbered {d} {pick} {before} {r} {after} p = record {
 
 numbered : (d : Draft) (m : Made) → Meets d m
     → ByNumber (refusalOf (d .n) (d .k) (callOf m)) (lent (callOf m)) (soughtNumbers (callOf m)) (replyOf m)
-unfolding Meets replyOf callOf lent refusalOf sought startReply maskReply radiusReply longestReply nextReply splitReply recordReply
-numbered d (started K r) p = record { found = _; is = p .says; only = gave-only [] [] [] [] }
-numbered d (fed pick before r after) p = fed-numbered p
-numbered d (splitted i k before r after) p = record {
-  found = _;
-  is = p .computes;
-  only = no-split-only (splitHeld d k (i .0)) before [] _ (λ ends. gave-only (length ends ∷ []) before (filled ends before) (9 ∷ []));
-}
-numbered d (longestAsked r) p = record { found = _; is = p .computes; only = gave-only _ [] [] [] }
-numbered d (maskAsked i r) p = record { found = _; is = p .computes; only = gave-only _ [] [] [] }
-numbered d (radiusAsked c r) p = record { found = _; is = p .computes; only = gave-only _ [] [] [] }
-numbered d (nextAsked c r) p = record { found = _; is = p .computes; only = no-ending-only (nextHeld d (c .0)) }
-numbered d (folded i k before r after) p = record {
-  found = _;
-  is = p .computes;
-  only = no-split-only (splitHeld d k (i .0)) before (5 ∷ []) _ (λ ends. too-long-only (recordOf (word (d .letters)) (i .0) ends) before);
-}
+unfolding Meets replyOf callOf
+numbered d (started K r) p = start-numbered p
+numbered d (fed pick before r after) p = feed-numbered p
+numbered d (asked q r) p = query-numbered p
 
 -- a refused call leaves the state
 state-kept : (d : Draft) (m : Made) → Meets d m → (number : ℕ) → replyOf m .said ≡ refused number → leaves d m ≡ d
-unfolding Meets replyOf leaves startReply
+unfolding Meets replyOf leaves replyTo refusalOf lent foundFor
 state-kept d (started K r) p number e =
-    p .refuses (λ z. gave-accepted (said-is (p .says ∙ unless-zero (startRefusal K) [] _ z)) number e)
+    p .refuses (λ z. gave-accepted (said-is (p .says blank ∙ unless-zero (startRefusal K) [] _ z)) number e)
 state-kept d (fed pick before r after) p number e = p .refuses (λ z. gave-accepted (p .computes z .says) number e) .1
-state-kept d (splitted i k before r after) p number e = refl
-state-kept d (longestAsked r) p number e = refl
-state-kept d (maskAsked i r) p number e = refl
-state-kept d (radiusAsked c r) p number e = refl
-state-kept d (nextAsked c r) p number e = refl
-state-kept d (folded i k before r after) p number e = refl
+state-kept d (asked q r) p number e = refl
 
 pub demand1 : Demand1Holds
 demand1 d m p = record {

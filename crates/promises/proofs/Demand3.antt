@@ -9,48 +9,44 @@ use native.Mathlib.Omega.{arith}
 use lib.ListN.{length, take, drop, length-append}
 use lib.Seq.{take-at, drop-at}
 use borrow.Author.Tests.{le-leb}
+use Rattle.words.specs.Cases.{true-false}
 use Rattle.words.specs.Definitions.{mostPicks, mostSections, word}
-use Rattle.words.specs.Computed.{splitOf, visits, longest, longestCentre}
+use Rattle.words.specs.Computed.{splitOf, visits, longestCentre}
+use Rattle.words.specs.Computed.{longest as longestOf}
 use Rattle.words.specs.Laws.{longest-is, longest-centre, visits-are}
 use Rattle.words.specs.FewVisits.{few-visits, visits-some}
 use Rattle.words.specs.Splits.{Splitting, given, lacking, split-law}
 use Rattle.models.specs.Core.{means}
 use Rattle.models.specs.Centres.{longest-centre-at}
-use Rattle.cells.specs.declared.Place.{Place}
 use Rattle.promises.specs.declared.Draft.{Draft}
 use Rattle.promises.specs.declared.Started.{Started}
 use Rattle.promises.specs.declared.Fed.{Fed}
-use Rattle.promises.specs.declared.CentreAnswer.{CentreAnswer}
-use Rattle.promises.specs.declared.SplitAnswer.{SplitAnswer}
-use Rattle.promises.specs.Answers.{Said, gave, refused, reply, startSays, feedSays, centreSays, splitSays, filled}
+use Rattle.promises.specs.Answers.{Said, gave, refused, Reply, reply, startSays, feedSays, filled}
 use Rattle.promises.specs.Refusals.{startRefusal, splitRefusal, longestRefusal}
-use Rattle.promises.specs.Book.{Book, startTaken}
-use Rattle.promises.specs.Replies.{orNoSplit, startReply, splitReply, longestReply, replyTo}
-use Rattle.promises.specs.Taking.{Case, taken, left, true-false, start-cases, passes7, unless-zero, unless-not}
+use Rattle.promises.specs.Book.{Book, blank, split, longest, lent, startTaken}
+use Rattle.promises.specs.Replies.{orNoSplit, splitReply, refusalOf, foundFor, replyTo}
+use Rattle.promises.specs.BookLaws.{Case, taken, left, start-cases, passes7, unless-zero, unless-not}
 use Rattle.promises.specs.State.{arraysOf}
 use Rattle.promises.specs.Holds.{Holds}
-use Rattle.promises.specs.Promises.{StartPromise, FeedPromise, SplitPromise, LongestPromise}
+use Rattle.promises.specs.Promises.{StartPromise, FeedPromise, Reads}
 use Rattle.promises.specs.Demands.{Accepted, SplitRight, MovedRight, VisitsRight, Demand3Holds}
 use Rattle.promises.proofs.Keeping.{gave-accepted, said-is, list-is, fits, whole, start-met, holds-at-feed, feed-met}
 use Rattle.promises.proofs.Feeding.{fed-accepted, fed-said, fed-list, fed-holds, fed-room}
 
 -- The longest ending's centre
 
-longest-accepted : (n K c : ℕ) → n ≤ mostPicks → 1 ≤ K → K ≤ mostSections → longestReply n K c ≡ reply (gave (c ∷ [])) []
-unfolding longestReply longestRefusal
-longest-accepted n K c x y z = unless-zero (longestRefusal n K) [] _ (passes7 n K 0 x y z)
+longest-said : {d : Draft} {b : Book} {r : Reply} → Holds d b → Reads d longest r
+    → r .said ≡ gave (longestCentre (word (b .row)) (length (b .row)) ∷ [])
+unfolding replyTo refusalOf lent foundFor longestRefusal
+longest-said {d} {b} h p =
+    said-is (p .meaning b h ∙ unless-zero _ [] _ (passes7 (length (b .row)) (b .K) 0 (fits h) (h .least) (h .most)))
 
-longest-said : {d : Draft} {b : Book} {r : CentreAnswer} → Holds d b → LongestPromise d r
-    → centreSays r ≡ gave (longestCentre (word (b .row)) (length (b .row)) ∷ [])
-unfolding replyTo
-longest-said {d} {b} h p = said-is (p .meaning b h ∙ longest-accepted (length (b .row)) (b .K) _ (fits h) (h .least) (h .most))
-
-moved-right : {d : Draft} {b : Book} {r : CentreAnswer} → Holds d b → LongestPromise d r → MovedRight (b .row) (centreSays r)
+moved-right : {d : Draft} {b : Book} {r : Reply} → Holds d b → Reads d longest r → MovedRight (b .row) (r .said)
 moved-right {d} {b} h p =
     let w : ℕ → ℕ = word (b .row) in
     let n : ℕ = length (b .row) in
-    let e : longestCentre w n ≡ 1 + (2 * n - longest w n) = omega (arith, longest-centre w n) in
-    record { L = longest w n; longest = longest-is w n; moved = 2 * n - longest w n; says = longest-said h p ∙ ap (λ c. gave (c ∷ [])) e; exactly = refl }
+    let e : longestCentre w n ≡ 1 + (2 * n - longestOf w n) = omega (arith, longest-centre w n) in
+    record { L = longestOf w n; longest = longest-is w n; moved = 2 * n - longestOf w n; says = longest-said h p ∙ ap (λ c. gave (c ∷ [])) e; exactly = refl }
 
 -- one pick more makes it no smaller
 onward : {d : Draft} {b : Book} → Holds d b → (pick : ℕ) → length (b .row) < mostPicks
@@ -61,26 +57,24 @@ onward {d} {b} h pick l =
 
 -- Splits
 
-split-accepted : (n K i k : ℕ) (list : List ℕ) (o : Option (List ℕ)) → n ≤ mostPicks → 1 ≤ K → K ≤ mostSections
-    → 1 ≤ k → k ≤ K → k ≤ length list → i ≤ n
-    → splitReply n K i k list o ≡ orNoSplit o list (λ ends. reply (gave (length ends ∷ [])) (filled ends list))
-unfolding splitReply splitRefusal
-split-accepted n K i k list o x y z p q r s =
-    unless-zero (splitRefusal n K i k (length list)) list _
-    (passes7 n K _ x y z ∙ simp (le-leb 1 k p, le-leb k K q, le-leb k (length list) r, le-leb 0 i (omega arith), le-leb i n s))
+split-passes : (n K i k entries : ℕ) → n ≤ mostPicks → 1 ≤ K → K ≤ mostSections → 1 ≤ k → k ≤ K → k ≤ entries → i ≤ n
+    → splitRefusal n K i k entries ≡ 0
+unfolding splitRefusal
+split-passes n K i k entries x y z p q r s =
+    passes7 n K _ x y z ∙ simp (le-leb 1 k p, le-leb k K q, le-leb k entries r, le-leb 0 i (omega arith), le-leb i n s)
 
 split-found : (u : List ℕ) (i k : ℕ) (before : List ℕ) (said : Said) (after : List ℕ)
-    → reply said after ≡ orNoSplit (splitOf (word u) i k) before (λ ends. reply (gave (length ends ∷ [])) (filled ends before))
+    → reply said after ≡ splitReply (splitOf (word u) i k) before
     → SplitRight u i k before said after
 unfolding orNoSplit
 split-found u i k before said after e = go (splitOf (word u) i k) (split-law (word u) k i) e
   where
     go : (o : Option (List ℕ)) → Splitting (word u) i k o
-        → reply said after ≡ orNoSplit o before (λ ends. reply (gave (length ends ∷ [])) (filled ends before))
+        → reply said after ≡ splitReply o before
         → SplitRight u i k before said after
     go o (given ends p n) e =
         let q : reply said after ≡ reply (gave (length ends ∷ [])) (filled ends before) =
-        e ∙ ap (λ x. orNoSplit x before (λ ends. reply (gave (length ends ∷ [])) (filled ends before))) p in
+        e ∙ ap (λ x. splitReply x before) p in
         let c : length ends ≡ k = n .is .count in
         let ok : Accepted said = gave-accepted (said-is q) in
         record {
@@ -90,16 +84,16 @@ split-found u i k before said after e = go (splitOf (word u) i k) (split-law (wo
         }
     go o (lacking p f) e =
         let q : reply said after ≡ reply (refused 9) before =
-        e ∙ ap (λ x. orNoSplit x before (λ ends. reply (gave (length ends ∷ [])) (filled ends before))) p in
+        e ∙ ap (λ x. splitReply x before) p in
         record { wants = (λ _. f, λ _. said-is q); keeps = λ _. list-is q; gives = λ z. absurd (z (said-is q)) }
 
-split-right : {d : Draft} {b : Book} → Holds d b → (i : Place) (k : ℕ) (before : List ℕ) (r : SplitAnswer) (after : List ℕ)
-    → i .0 ≤ length (b .row) → 1 ≤ k → k ≤ b .K → k ≤ length before → SplitPromise d i k before r after
-    → SplitRight (b .row) (i .0) k before (splitSays r) after
-unfolding replyTo
-split-right {d} {b} h i k before r after x y z l p =
-    split-found (b .row) (i .0) k before (splitSays r) after
-    (p .meaning b h ∙ split-accepted (length (b .row)) (b .K) (i .0) k before (splitOf (word (b .row)) (i .0) k) (fits h) (h .least) (h .most) y z l x)
+split-right : {d : Draft} {b : Book} → Holds d b → (i k : ℕ) (before : List ℕ) (r : Reply)
+    → i ≤ length (b .row) → 1 ≤ k → k ≤ b .K → k ≤ length before → Reads d (split i k before) r
+    → SplitRight (b .row) i k before (r .said) (r .list)
+unfolding replyTo refusalOf lent foundFor
+split-right {d} {b} h i k before r x y z l p =
+    split-found (b .row) i k before (r .said) (r .list)
+    (p .meaning b h ∙ unless-zero _ before _ (split-passes (length (b .row)) (b .K) i k (length before) (fits h) (h .least) (h .most) y z l x))
 
 -- Visits
 
@@ -125,12 +119,12 @@ visits-right {d} {b} {pick} {before} {r} {after} h p ok =
 -- Starts
 
 start-accepted : {d : Draft} {K : ℕ} {r : Started} → StartPromise d K r → Accepted (startSays (r .answer)) ↔ (startTaken K ≡ true)
-unfolding startReply
+unfolding replyTo refusalOf lent foundFor
 start-accepted {d} {K} {r} p = go (start-cases K)
   where
     go : Case (startTaken K) (startRefusal K) → Accepted (startSays (r .answer)) ↔ (startTaken K ≡ true)
-    go (taken t z) = (λ _. t, λ _. gave-accepted (said-is (p .says ∙ unless-zero (startRefusal K) [] _ z)))
-    go (left t z) = (λ ok. absurd (ok _ (said-is (p .says ∙ unless-not (startRefusal K) [] _ z))), λ y. absurd (true-false y t))
+    go (taken t z) = (λ _. t, λ _. gave-accepted (said-is (p .says blank ∙ unless-zero (startRefusal K) [] _ z)))
+    go (left t z) = (λ ok. absurd (ok _ (said-is (p .says blank ∙ unless-not (startRefusal K) [] _ z))), λ y. absurd (true-false y t))
 
 one : {a b : ℕ} → gave (a ∷ []) ≡ gave (b ∷ []) → a ≡ b
 one {a} {b} e = ap (λ s. first s) e

@@ -9,9 +9,10 @@ use Rattle.words.specs.Definitions.{mostSections, word}
 use Rattle.words.specs.Computed.{longestCentre, splitOf}
 use Rattle.words.specs.Computed.{mask as maskOf, visits as lengthsOf, radiusAt as radiusOf}
 use Rattle.words.specs.Laws.{longest-centre}
-use Rattle.promises.specs.Answers.{gave, reply, filled}
-use Rattle.promises.specs.Replies.{orNoSplit, feedReply, maskReply, radiusReply, longestReply, splitReply, refusalOf, fedVisits, replyTo}
-use Rattle.promises.specs.Taking.{unless-zero}
+use Rattle.promises.specs.Answers.{gave, reply}
+use Rattle.promises.specs.Replies.{orNoSplit, splitReply, refusalOf, fedVisits, foundFor, replyTo}
+use Rattle.promises.specs.Book.{lent}
+use Rattle.promises.specs.BookLaws.{unless-zero}
 use Rattle.promises.specs.Drafts.{Question, mask, visits, moved, endsIn, radiusAt, Row, table, bookFor, lastPick, callFor, entries, replyWith, Right}
 
 -- One test over the whole table: no row's call meets a line that needs no letters, and what is found is the answer
@@ -58,7 +59,7 @@ same-number n K u (radiusAt c) list other e = refl
 reply-is : (u : List ℕ) (q : Question) (answer : Option (List ℕ)) (list : List ℕ)
     → refusalOf (length (bookFor u q .row)) mostSections (callFor u q list) ≡ 0 → found u q ≡ answer
     → replyTo (bookFor u q) (callFor u q list) ≡ replyWith u q answer list
-unfolding replyTo refusalOf found feedReply maskReply radiusReply longestReply splitReply orNoSplit
+unfolding replyTo refusalOf lent foundFor found orNoSplit
 reply-is u mask answer list z e = rw (← e) (unless-zero _ [] _ z)
 reply-is u visits answer list z e = rw (← e) (unless-zero _ list _ z)
 reply-is u moved answer list z e =
@@ -66,7 +67,7 @@ reply-is u moved answer list z e =
 reply-is u (endsIn k) answer list z e = unless-zero _ list _ z ∙ go (splitOf (word u) (length u) k) answer e
   where
     go : (o a : Option (List ℕ)) → o ≡ a
-        → orNoSplit o list (λ ends. reply (gave (length ends ∷ [])) (filled ends list)) ≡ replyWith u (endsIn k) a list
+        → splitReply o list ≡ replyWith u (endsIn k) a list
     go o none e = rw e
     go o (some ends) e = rw e
 reply-is u (radiusAt c) answer list z e = rw (← e) (unless-zero _ [] _ z)

@@ -7,14 +7,15 @@ use Prim.Native.Nat.{ℕ, _<_}
 use lib.Dec.{leb, ltb}
 use lib.ListN.{length}
 use borrow.Author.Tests.{ltb-true}
+use Rattle.words.specs.Cases.{true-false}
 use Rattle.words.specs.Definitions.{mostPicks, mostVisits, firstLetter, lastLetter}
 use Rattle.promises.specs.declared.Draft.{Draft}
 use Rattle.promises.specs.declared.Fed.{Fed}
 use Rattle.promises.specs.Answers.{gave, reply, feedSays, filled}
 use Rattle.promises.specs.Refusals.{between, feedRefusal}
-use Rattle.promises.specs.Book.{Book, book, feedTaken, write}
-use Rattle.promises.specs.Replies.{unless, feedReply, fedMask, fedVisits, replyTo}
-use Rattle.promises.specs.Taking.{Case, taken, left, true-false, unless-zero, unless-not}
+use Rattle.promises.specs.Book.{Book, book, lent, feedTaken, write}
+use Rattle.promises.specs.Replies.{unless, fedReply, fedMask, fedVisits, refusalOf, foundFor, replyTo}
+use Rattle.promises.specs.BookLaws.{Case, taken, left, unless-zero, unless-not}
 use Rattle.promises.specs.Holds.{Holds}
 use Rattle.promises.specs.Promises.{FeedPromise}
 use Rattle.promises.specs.Demands.{Accepted}
@@ -22,9 +23,8 @@ use Rattle.promises.proofs.Keeping.{gave-accepted, said-is, list-is, fe
 
 module _ {d : Draft} {b : Book} {pick : ℕ} {before : List ℕ} {r : Fed} {after : List ℕ} (h : Holds d b) (p : FeedPromise d pick before r after) where
   is : reply (feedSays (r .answer)) after
-      ≡ unless (feedRefusal (length (b .row)) (b .K) pick (length before)) before
-      (reply (gave (fedMask b pick ∷ length (fedVisits b pick) ∷ [])) (filled (fedVisits b pick) before))
-  unfolding replyTo feedReply
+      ≡ unless (feedRefusal (length (b .row)) (b .K) pick (length before)) before (fedReply (fedMask b pick) (fedVisits b pick) before)
+  unfolding replyTo refusalOf lent foundFor
   is = p .meaning b h .replies
 
   -- accepted exactly when the book takes it
@@ -37,11 +37,11 @@ module _ {d : Draft} {b : Book} {pick : ℕ} {before : List ℕ} {r : Fed} {afte
       go (left t z) = (λ ok. absurd (ok _ (said-is (is ∙ unless-not _ before _ z))), λ y. absurd (true-false y t))
 
   fed-reply : Accepted (feedSays (r .answer))
-      → reply (feedSays (r .answer)) after ≡ reply (gave (fedMask b pick ∷ length (fedVisits b pick) ∷ [])) (filled (fedVisits b pick) before)
+      → reply (feedSays (r .answer)) after ≡ fedReply (fedMask b pick) (fedVisits b pick) before
   fed-reply ok = go (feed-taken h pick (length before))
     where
       go : Case (feedTaken b pick (length before)) (feedRefusal (length (b .row)) (b .K) pick (length before))
-          → reply (feedSays (r .answer)) after ≡ reply (gave (fedMask b pick ∷ length (fedVisits b pick) ∷ [])) (filled (fedVisits b pick) before)
+          → reply (feedSays (r .answer)) after ≡ fedReply (fedMask b pick) (fedVisits b pick) before
       go (taken t z) = is ∙ unless-zero _ before _ z
       go (left t z) = absurd (ok _ (said-is (is ∙ unless-not _ before _ z)))
 

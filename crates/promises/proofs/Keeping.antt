@@ -3,28 +3,28 @@ use mathlib.Core.Path.{_≡_, sym, ap, subst}
 use mathlib.Core.Bool.{true, cond}
 use mathlib.Core.List.{List, [], _∷_, _++_}
 use Prim.Native.Nat.{ℕ, _≤_}
-use native.Mathlib.Omega.{arith}
 use lib.ListN.{length}
 use borrow.Author.Tests.{le-leb}
+use Rattle.words.specs.Cases.{clash, true-false}
 use Rattle.words.specs.Definitions.{mostPicks, mostSections}
 use Rattle.promises.specs.declared.Draft.{Draft}
 use Rattle.promises.specs.declared.Started.{Started}
 use Rattle.promises.specs.declared.Fed.{Fed}
-use Rattle.promises.specs.Answers.{Said, gave, reply, startSays}
+use Rattle.promises.specs.Answers.{Said, gave, reply}
 use Rattle.promises.specs.Refusals.{startRefusal, feedRefusal}
 use Rattle.promises.specs.Book.{Book, book, blank, startTaken, feedTaken, write, writeAll, bookOf, start}
 use Rattle.promises.specs.Replies.{replyTo, replies}
-use Rattle.promises.specs.Taking.{Case, taken, left, true-false, start-cases, feed-cases}
+use Rattle.promises.specs.BookLaws.{Case, taken, left, start-cases, feed-cases}
 use Rattle.promises.specs.Holds.{Holds}
-use Rattle.promises.specs.Meeting.{start-holds}
+use Rattle.promises.specs.WritingLaws.{start-holds}
 use Rattle.promises.specs.Promises.{StartPromise, FeedPromise}
-use Rattle.promises.specs.Runs.{Made, started, fed, splitted, longestAsked, maskAsked, radiusAsked, nextAsked, folded, callOf, calls, replyOf, Meets, leaves, Run, last}
+use Rattle.promises.specs.Runs.{Made, started, fed, asked, callOf, calls, replyOf, Meets, leaves, Run, last}
 use Rattle.promises.specs.Demands.{Opened, Accepted, FeedAmong}
 
 -- Answers that are accepted
 
 pub gave-accepted : {said : Said} {l : List ℕ} → said ≡ gave l → Accepted said
-gave-accepted {said} {l} e number q = let z : _≡_ {A = ℕ} 0 1 = cc in omega arith
+gave-accepted {said} {l} e number q = clash cc
 
 -- the parts of an equation of replies
 pub said-is : {s t : Said} {k l : List ℕ} → reply s k ≡ reply t l → s ≡ t
@@ -50,27 +50,13 @@ module _ {d : Draft} {b : Book} (h : Holds d b) where
       go (taken t z) = rw t (start-holds p z)
       go (left t z) = rw (t, p .refuses z) h
   keep (fed pick before r after) p = p .meaning b h .holds
-  keep (splitted i k before r after) p = h
-  keep (longestAsked r) p = h
-  keep (maskAsked i r) p = h
-  keep (radiusAsked c r) p = h
-  keep (nextAsked c r) p = h
-  keep (folded i k before r after) p = h
-
-  start-replied : {K : ℕ} {r : Started} → StartPromise d K r → reply (startSays (r .answer)) [] ≡ replyTo b (start K)
-  unfolding replyTo
-  start-replied p = p .says
+  keep (asked q r) p = h
 
   pub replied : (m : Made) → Meets d m → replyOf m ≡ replyTo b (callOf m)
   unfolding Meets replyOf callOf
-  replied (started K r) p = start-replied p
+  replied (started K r) p = p .says b
   replied (fed pick before r after) p = p .meaning b h .replies
-  replied (splitted i k before r after) p = p .meaning b h
-  replied (longestAsked r) p = p .meaning b h
-  replied (maskAsked i r) p = p .meaning b h
-  replied (radiusAsked c r) p = p .meaning b h
-  replied (nextAsked c r) p = p .meaning b h
-  replied (folded i k before r after) p = p .meaning b h
+  replied (asked q r) p = p .meaning b h
 
 -- The calls, one after the other
 
@@ -125,8 +111,8 @@ module _ {d : Draft} {K : ℕ} {r : Started} {ms : List Made} (o : Opened d K r 
       (λ u. whole (record { least = o .least; most = o .most; run = u })) t
 
   replied-first : (m : Made) → m ≡ started K r → replyOf m ≡ replyTo blank (callOf m)
-  unfolding replyOf callOf replyTo
-  replied-first m e = rw e (promise o .says)
+  unfolding replyOf callOf
+  replied-first m e = rw e (promise o .says blank)
 
   pub replied-at : (xs ys : List Made) (m : Made) → started K r ∷ ms ≡ xs ++ m ∷ ys → replyOf m ≡ replyTo (bookOf (calls xs)) (callOf m)
   unfolding writeAll
@@ -142,7 +128,7 @@ module _ {d : Draft} {K : ℕ} {r : Started} {ms : List Made} (o : Opened d K r 
   holds-before (x ∷ xs) ys m f e t = let z : x ≡ started K r = cc in opened-at x xs z t
 
   fed-not : {pick : ℕ} {before : List ℕ} {x : Fed} {after : List ℕ} → fed pick before x after ≡ started K r → ⊥
-  fed-not {pick} {before} {x} {after} e = let z : _≡_ {A = ℕ} 0 1 = cc in omega arith
+  fed-not {pick} {before} {x} {after} e = clash cc
 
   module _ (xs : List Made) {pick : ℕ} {before : List ℕ} {x : Fed} {after : List ℕ} (f : FeedAmong (started K r ∷ ms) xs pick before x after) where
     parted : Run d xs × Meets (last d xs) (fed pick before x after)

@@ -1,5 +1,7 @@
 pub mod Keeping
 pub mod Listing
+pub mod Finding
+pub mod Calls
 pub mod Answering
 pub mod Demand1
 pub mod Feeding

@@ -3,20 +3,18 @@ use mathlib.Core.Path.{_≡_, refl, sym, _∙_}
 use mathlib.Core.Bool.{Bool, true, false, _&&_, decide, decide-iff, and-eq-true-iff}
 use mathlib.Core.Logic.{_≢_, inl, inr}
 use mathlib.Core.List.{List, [], _∷_, _++_}
-use Prim.Native.Nat.{ℕ, _+_, _*_, _≤_}
+use Prim.Native.Nat.{ℕ, _+_, _≤_}
 use native.Mathlib.Omega.{arith}
 use native.Mathlib.Decide.{decLt}
 use lib.Dec.{leb, ltb}
 use lib.ListN.{length}
 use borrow.Author.Tests.{leb-true, ltb-true, le-leb, lt-ltb}
-use Rattle.words.specs.Definitions.{mostPicks, mostSections, mostVisits, firstLetter, lastLetter}
+use Rattle.words.specs.Definitions.{mostPicks, mostSections, firstLetter, lastLetter}
 use Rattle.words.specs.Computed.{rising?}
-use Rattle.promises.specs.Refusals.{between, test, line3, line4, line6, line7, line8, startRefusal, feedRefusal, maskRefusal, centreRefusal, longestRefusal, splitRefusal, recordRefusal, showRefusal, liftRefusal}
-use Rattle.promises.specs.Book.{Call, start, feed, split, longest, mask, radius, next, fold}
-use Rattle.promises.specs.Replies.{refusalOf}
-use Rattle.promises.specs.Taking.{true-false}
-use Rattle.promises.specs.Passing.{between-true}
-use Rattle.promises.specs.Listed.{Line, line, First, NoneMet, Outside, shortList, prefixAbove, endsNotRising, noDraft, full, listed, showLines, liftLines}
+use Rattle.promises.specs.Refusals.{between, test, line3, line4, line6, line7, line8, showRefusal, liftRefusal}
+use Rattle.words.specs.Cases.{true-false}
+use Rattle.promises.specs.RefusalLaws.{between-true}
+use Rattle.promises.specs.Listed.{Line, line, First, NoneMet, Outside, shortList, prefixAbove, endsNotRising, noDraft, full, showLines, liftLines}
 
 -- The first line that is met is one, and there is none where none is met
 
@@ -70,7 +68,7 @@ pub data Tested (ls : List Line) (number : ℕ) : Type 0 where
   hit : First ls number → number ≢ 0 → Tested ls number
   clear : NoneMet ls → number ≡ 0 → Tested ls number
 
-over : Tested [] 0
+pub over : Tested [] 0
 unfolding NoneMet
 over = clear tt refl
 
@@ -100,23 +98,23 @@ outside-met low high x e = elim (decLt x low) [
   ]
 ]
 
-check-outside : (number low high x : ℕ) (ls : List Line) (after : ℕ) → number ≢ 0 → Tested ls after
+pub check-outside : (number low high x : ℕ) (ls : List Line) (after : ℕ) → number ≢ 0 → Tested ls after
     → Tested (line number (Outside low high x) ∷ ls) (test (between low high x) number after)
 check-outside number low high x ls after z k =
     check (line number (Outside low high x)) ls (between low high x) after z (outside-met low high x) (inside-not low high x) (λ _. k)
 
-check-list : (least entries : ℕ) (ls : List Line) (after : ℕ) → Tested ls after → Tested (shortList least entries ∷ ls) (line3 least entries after)
+pub check-list : (least entries : ℕ) (ls : List Line) (after : ℕ) → Tested ls after → Tested (shortList least entries ∷ ls) (line3 least entries after)
 check-list least entries ls after k = check (shortList least entries) ls (leb least entries) after (λ e. omega arith)
     (λ e. elim (decLt entries least) [ yes l ↦ l | no l ↦ absurd (true-false (le-leb least entries (omega arith)) e) ])
     (λ e l. omega (arith, leb-true least entries e)) (λ _. k)
 
-check-prefix : (n i : ℕ) (ls : List Line) (after : ℕ) → Tested ls after → Tested (prefixAbove n i ∷ ls) (line4 0 n i after)
+pub check-prefix : (n i : ℕ) (ls : List Line) (after : ℕ) → Tested ls after → Tested (prefixAbove n i ∷ ls) (line4 0 n i after)
 check-prefix n i ls after k = check (prefixAbove n i) ls (between 0 n i) after (λ e. omega arith)
     (λ e. elim (decLt n i) [ yes l ↦ l | no l ↦ absurd (true-false (simp (le-leb 0 i (omega arith), le-leb i n (omega arith))) e) ])
     (λ e l. omega (arith, between-true 0 n i e .1)) (λ _. k)
 
 -- those after 7 may take it that n is at most 2,048
-check-draft : (n K : ℕ) (ls : List Line) (after : ℕ) → (n ≤ mostPicks → Tested ls after) → Tested (noDraft n K ∷ ls) (line7 n K after)
+pub check-draft : (n K : ℕ) (ls : List Line) (after : ℕ) → (n ≤ mostPicks → Tested ls after) → Tested (noDraft n K ∷ ls) (line7 n K after)
 check-draft n K ls after k = check (noDraft n K) ls (leb n mostPicks && between 1 mostSections K) after (λ e. omega arith)
     (λ e. elim (decLt mostPicks n) [
       | yes l ↦ inl l
@@ -129,7 +127,7 @@ check-draft n K ls after k = check (noDraft n K) ls (leb n mostPicks && between 
     not-met p (inl l) = omega (arith, leb-true n mostPicks (p .0))
     not-met p (inr o) = inside-not 1 mostSections K (p .1) o
 
-check-full : (n : ℕ) (ls : List Line) (after : ℕ) → n ≤ mostPicks → Tested ls after → Tested (full n ∷ ls) (line8 n after)
+pub check-full : (n : ℕ) (ls : List Line) (after : ℕ) → n ≤ mostPicks → Tested ls after → Tested (full n ∷ ls) (line8 n after)
 check-full n ls after h k = check (full n) ls (ltb n mostPicks) after (λ e. omega arith)
     (λ e. elim (decLt n mostPicks) [ yes l ↦ absurd (true-false (lt-ltb n mostPicks l) e) | no l ↦ omega arith ])
     (λ e l. omega (arith, ltb-true n mostPicks e)) (λ _. k)
@@ -141,20 +139,7 @@ check-rising letters ends ls after k =
     (λ e h. true-false (decide-iff (rising? (length letters) 0 ends) .1 h) e)
     (λ e f. f (decide-iff (rising? (length letters) 0 ends) .0 e)) (λ _. k)
 
--- The calls
-
-pub listed-tested : (n K : ℕ) (call : Call) → Tested (listed n K call) (refusalOf n K call)
-unfolding listed refusalOf startRefusal feedRefusal splitRefusal longestRefusal maskRefusal centreRefusal recordRefusal
-listed-tested n K (start k) = check-outside 1 1 mostSections k [] 0 (λ e. omega arith) over
-listed-tested n K (feed pick visits) = check-draft n K _ _ (λ h.
-    check-outside 2 firstLetter lastLetter pick _ _ (λ e. omega arith) (check-list mostVisits (length visits) _ _ (check-full n [] 0 h over)))
-listed-tested n K (split i k ends) = check-draft n K _ _ (λ _.
-    check-outside 1 1 K k _ _ (λ e. omega arith) (check-list k (length ends) _ _ (check-prefix n i [] 0 over)))
-listed-tested n K longest = check-draft n K [] 0 (λ _. over)
-listed-tested n K (mask i) = check-draft n K _ _ (λ _. check-prefix n i [] 0 over)
-listed-tested n K (radius c) = check-draft n K _ _ (λ _. check-outside 4 1 (2 * n + 1) c [] 0 (λ e. omega arith) over)
-listed-tested n K (next c) = check-draft n K _ _ (λ _. check-outside 4 1 (2 * n + 1) c [] 0 (λ e. omega arith) over)
-listed-tested n K (fold i k output) = check-draft n K _ _ (λ _. check-outside 1 1 K k _ _ (λ e. omega arith) (check-prefix n i [] 0 over))
+-- Show and lift
 
 pub show-tested : (letters ends : List ℕ) (s : ℕ) → Tested (showLines letters ends s) (showRefusal letters ends s)
 unfolding showRefusal

@@ -9,11 +9,11 @@ use Rattle.promises.specs.declared.Started.{Started}
 use Rattle.promises.specs.declared.Fed.{Fed}
 use Rattle.promises.specs.Refusals.{startRefusal, feedRefusal}
 use Rattle.promises.specs.Book.{Book, book, blank, startTaken, feedTaken, write, writeAll}
-use Rattle.promises.specs.Taking.{Case, taken, left, start-cases}
+use Rattle.promises.specs.BookLaws.{Case, taken, left, start-cases}
 use Rattle.promises.specs.State.{withPick, withPicks, fresh, stateOfBook}
 use Rattle.promises.specs.Holds.{Holds}
 use Rattle.promises.specs.Promises.{StartPromise, FeedPromise}
-use Rattle.promises.specs.Runs.{Made, started, fed, splitted, longestAsked, maskAsked, radiusAsked, nextAsked, folded, callOf, calls, Meets, leaves, Run, last}
+use Rattle.promises.specs.Runs.{Made, started, fed, asked, callOf, calls, Meets, leaves, Run, last}
 use Rattle.promises.specs.Demands.{WordsHold, StateOfBook}
 use Rattle.promises.proofs.Keeping.{feed-taken, keep, promise, opened, opens, whole}
 
@@ -54,12 +54,7 @@ module _ {d : Draft} {b : Book} (h : Holds d b) (e : d ≡ stateOfBook b) where
   unfolding Meets leaves callOf write
   call-state (started K r) p = start-state p
   call-state (fed pick before r after) p = feed-state p
-  call-state (splitted i k before r after) p = e
-  call-state (longestAsked r) p = e
-  call-state (maskAsked i r) p = e
-  call-state (radiusAsked c r) p = e
-  call-state (nextAsked c r) p = e
-  call-state (folded i k before r after) p = e
+  call-state (asked q r) p = e
 
 -- The calls, one after the other
 

@@ -3,7 +3,7 @@ use mathlib.Core.Path.{_≡_, refl, ap₂}
 use mathlib.Core.List.{List, [], _∷_, map}
 use Rattle.promises.specs.declared.Draft.{Draft}
 use Rattle.promises.specs.Book.{Book, blank}
-use Rattle.promises.specs.Replies.{replyTo, replies}
+use Rattle.promises.specs.Replies.{replies}
 use Rattle.promises.specs.Holds.{Holds}
 use Rattle.promises.specs.Runs.{Made, callOf, calls, replyOf, Meets, Run, leaves}
 use Rattle.promises.specs.Demands.{Transcript}
@@ -15,5 +15,5 @@ replied-all [] t h = refl
 replied-all (m ∷ ms) t h = ap₂ (λ x xs. x ∷ xs) (replied h m (t .0)) (replied-all ms (t .1) (keep h m (t .0)))
 
 pub transcript : Transcript
-unfolding Run replies Meets replyOf callOf replyTo leaves
-transcript d K r ms o = ap₂ (λ x xs. x ∷ xs) (o .run .0 .says) (replied-all ms (o .run .1) (opened o blank))
+unfolding Run replies Meets replyOf callOf leaves
+transcript d K r ms o = ap₂ (λ x xs. x ∷ xs) (o .run .0 .says blank) (replied-all ms (o .run .1) (opened o blank))

@@ -7,28 +7,32 @@ use lib.ListN.{length}
 use Rattle.words.specs.Definitions.{mostPicks, mostSections, mostVisits, firstLetter, lastLetter}
 use Rattle.promises.specs.Refusals.{between}
 
--- A call with its arguments, the state not among them; a list is lent as it stands. Places are in whole picks, centres in half picks.
--- The last four calls only read the state.
+-- A query: a call that only reads the state, with its arguments; a list is lent as it stands. Places are in whole picks, centres in half
+-- picks.
+pub data Query : Type 0 where
+  split : (i k : ℕ) (ends : List ℕ) → Query
+  longest : Query
+  mask : (i : ℕ) → Query
+  radius : (c : ℕ) → Query
+  next : (c : ℕ) → Query
+  fold : (i k : ℕ) (output : List ℕ) → Query
+
+-- A call with its arguments, the state not among them
 pub data Call : Type 0 where
   start : (K : ℕ) → Call
   feed : (pick : ℕ) (visits : List ℕ) → Call
-  split : (i k : ℕ) (ends : List ℕ) → Call
-  longest : Call
-  mask : (i : ℕ) → Call
-  radius : (c : ℕ) → Call
-  next : (c : ℕ) → Call
-  fold : (i k : ℕ) (output : List ℕ) → Call
+  ask : (q : Query) → Call
 
 -- the list as it was lent; [] where none is
 unfoldable pub lent : Call → List ℕ
 lent (start K) = []
 lent (feed pick visits) = visits
-lent (split i k ends) = ends
-lent longest = []
-lent (mask i) = []
-lent (radius c) = []
-lent (next c) = []
-lent (fold i k output) = output
+lent (ask (split i k ends)) = ends
+lent (ask longest) = []
+lent (ask (mask i)) = []
+lent (ask (radius c)) = []
+lent (ask (next c)) = []
+lent (ask (fold i k output)) = output
 
 -- "It holds K and a row of letters."
 pub record Book : Type 0 where
@@ -54,12 +58,7 @@ fedRow b pick = b .row ++ pick ∷ []
 unfoldable pub write : Book → Call → Book
 write b (start K) = cond (startTaken K) (book K []) b
 write b (feed pick visits) = cond (feedTaken b pick (length visits)) (book (b .K) (fedRow b pick)) b
-write b (split i k ends) = b
-write b longest = b
-write b (mask i) = b
-write b (radius c) = b
-write b (next c) = b
-write b (fold i k output) = b
+write b (ask q) = b
 
 unfoldable pub writeAll : Book → List Call → Book
 unfolding write

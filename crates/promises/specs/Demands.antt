@@ -8,21 +8,17 @@ use lib.ListN.{length, take, drop}
 use Rattle.words.specs.Definitions.{mostSections, word, LongestEnding, Visits, Split, Named}
 use Rattle.words.specs.Computed.{rowWord, gatheredWord}
 use Rattle.models.specs.Stores.{at}
-use Rattle.cells.specs.declared.Place.{Place}
 use Rattle.promises.specs.declared.Draft.{Draft}
 use Rattle.promises.specs.declared.Started.{Started}
 use Rattle.promises.specs.declared.Fed.{Fed}
-use Rattle.promises.specs.declared.MaskAnswer.{MaskAnswer}
-use Rattle.promises.specs.declared.CentreAnswer.{CentreAnswer}
-use Rattle.promises.specs.declared.SplitAnswer.{SplitAnswer}
 use Rattle.promises.specs.declared.LiftAnswer.{LiftAnswer}
-use Rattle.promises.specs.Answers.{Said, gave, refused, Reply, startSays, feedSays, maskSays, centreSays, splitSays, liftSays}
+use Rattle.promises.specs.Answers.{Said, gave, refused, Reply, startSays, feedSays, liftSays}
 use Rattle.promises.specs.Lifts.{lift}
-use Rattle.promises.specs.Book.{Book, Call, start, feed, split, longest, mask, radius, next, fold, blank, lent, startTaken, feedTaken, bookOf}
+use Rattle.promises.specs.Book.{Book, Call, ask, split, longest, mask, next, fold, blank, lent, startTaken, feedTaken, bookOf}
 use Rattle.promises.specs.Listed.{First, NoneMet, recordLonger, noSplit, noEnding, listed, sought, lines, showLines, liftLines}
 use Rattle.promises.specs.Says.{Yes, Says, PartOf}
 use Rattle.promises.specs.State.{stateOfBook}
-use Rattle.promises.specs.Promises.{MaskPromise, SplitPromise, LongestPromise, ShowPromise, ShowNumberPromise, LiftPromise}
+use Rattle.promises.specs.Promises.{Reads, ShowPromise, ShowNumberPromise, LiftPromise}
 use Rattle.promises.specs.Replies.{replies}
 use Rattle.promises.specs.Runs.{Made, started, fed, callOf, calls, replyOf, Meets, leaves, Run, last}
 
@@ -69,18 +65,14 @@ abbrev pub NoneListed : Book → Call → Type 0
 NoneListed b call = NoneMet (listed (length (b .row)) (b .K) call)
 
 -- 9, 10 and 5, each by itself: exactly where no line before it is met, and it is
-unfoldable pub Late : Book → Call → Reply → Type 0
-unfolding listed
-Late b (start k) r = Unit
-Late b (feed pick visits) r = Unit
-Late b (split i k ends) r = (r .said ≡ refused 9) ↔ (NoneListed b (split i k ends) × noSplit (b .row) i k .Met)
-Late b longest r = Unit
-Late b (mask i) r = Unit
-Late b (radius c) r = Unit
-Late b (next c) r = (r .said ≡ refused 10) ↔ (NoneListed b (next c) × noEnding (b .row) c .Met)
-Late b (fold i k output) r =
-    ((r .said ≡ refused 9) ↔ (NoneListed b (fold i k output) × noSplit (b .row) i k .Met))
-    × ((r .said ≡ refused 5) ↔ (NoneListed b (fold i k output) × recordLonger (b .row) i k output .Met))
+pub record Late (b : Book) (call : Call) (r : Reply) : Type 0 where
+  pub split9 : (i k : ℕ) (ends : List ℕ) → call ≡ ask (split i k ends)
+      → (r .said ≡ refused 9) ↔ (NoneListed b call × noSplit (b .row) i k .Met)
+  pub next10 : (c : ℕ) → call ≡ ask (next c) → (r .said ≡ refused 10) ↔ (NoneListed b call × noEnding (b .row) c .Met)
+  pub record9 : (i k : ℕ) (output : List ℕ) → call ≡ ask (fold i k output)
+      → (r .said ≡ refused 9) ↔ (NoneListed b call × noSplit (b .row) i k .Met)
+  pub record5 : (i k : ℕ) (output : List ℕ) → call ≡ ask (fold i k output)
+      → (r .said ≡ refused 5) ↔ (NoneListed b call × recordLonger (b .row) i k output .Met)
 
 -- for a call of a run, b being the book before it
 pub record Answered (b : Book) (call : Call) (r : Reply) : Type 0 where
@@ -114,8 +106,8 @@ pub record LiftRight (letter : ℕ) (said : Said) : Type 0 where
 
 pub record Demand2 (d : Draft) (ms : List Made) : Type 0 where
   -- for each prefix
-  pub prefixes : (i : Place) (r : MaskAnswer) → i .0 ≤ length (rowOf ms) → MaskPromise (last d ms) i r
-      → (m : ℕ) × (maskSays r ≡ gave (m ∷ [])) × Yes (sectionsOf ms) (rowOf ms) (i .0) m
+  pub prefixes : (i : ℕ) (r : Reply) → i ≤ length (rowOf ms) → Reads (last d ms) (mask i) r
+      → (m : ℕ) × (r .said ≡ gave (m ∷ [])) × Yes (sectionsOf ms) (rowOf ms) i m
   -- while a designer keys picks: after each pick
   pub feeds : (xs : List Made) (pick : ℕ) (before : List ℕ) (r : Fed) (after : List ℕ) → FeedAmong ms xs pick before r after
       → Accepted (feedSays (r .answer))
@@ -153,10 +145,10 @@ pub record VisitsRight (u before : List ℕ) (said : Said) (after : List ℕ) : 
   pub kept : drop c after ≡ drop c before
 
 pub record Demand3 (d : Draft) (ms : List Made) : Type 0 where
-  pub splits : (i : Place) (k : ℕ) (before : List ℕ) (r : SplitAnswer) (after : List ℕ)
-      → i .0 ≤ length (rowOf ms) → 1 ≤ k → k ≤ sectionsOf ms → k ≤ length before
-      → SplitPromise (last d ms) i k before r after → SplitRight (rowOf ms) (i .0) k before (splitSays r) after
-  pub moved : (r : CentreAnswer) → LongestPromise (last d ms) r → MovedRight (rowOf ms) (centreSays r)
+  pub splits : (i k : ℕ) (before : List ℕ) (r : Reply)
+      → i ≤ length (rowOf ms) → 1 ≤ k → k ≤ sectionsOf ms → k ≤ length before
+      → Reads (last d ms) (split i k before) r → SplitRight (rowOf ms) i k before (r .said) (r .list)
+  pub moved : (r : Reply) → Reads (last d ms) longest r → MovedRight (rowOf ms) (r .said)
   pub visits : (xs : List Made) (pick : ℕ) (before : List ℕ) (r : Fed) (after : List ℕ) → FeedAmong ms xs pick before r after
       → Accepted (feedSays (r .answer))
       → VisitsRight (rowOf xs ++ pick ∷ []) before (feedSays (r .answer)) after
@@ -167,8 +159,8 @@ pub record Demand3 (d : Draft) (ms : List Made) : Type 0 where
   -- "no accepted feed makes that number smaller"
   pub onward : (xs : List Made) (pick : ℕ) (before : List ℕ) (r : Fed) (after : List ℕ) → FeedAmong ms xs pick before r after
       → Accepted (feedSays (r .answer))
-      → (p q : CentreAnswer) (a b : ℕ) → LongestPromise (last d xs) p → LongestPromise (r .state) q → centreSays p ≡ gave (a ∷ [])
-      → centreSays q ≡ gave (b ∷ []) → a ≤ b
+      → (p q : Reply) (a b : ℕ) → Reads (last d xs) longest p → Reads (r .state) longest q → p .said ≡ gave (a ∷ [])
+      → q .said ≡ gave (b ∷ []) → a ≤ b
 
 -- The state after a run
 

@@ -78,11 +78,11 @@ abbrev pub lastPick : List ℕ → ℕ
 lastPick u = getD u (length u - 1) 0
 
 abbrev pub callFor : List ℕ → Question → (list : List ℕ) → Call
-callFor u mask list = calls.mask (length u)
+callFor u mask list = calls.ask (calls.mask (length u))
 callFor u visits list = calls.feed (lastPick u) list
-callFor u moved list = calls.longest
-callFor u (endsIn k) list = calls.split (length u) k list
-callFor u (radiusAt c) list = calls.radius c
+callFor u moved list = calls.ask calls.longest
+callFor u (endsIn k) list = calls.ask (calls.split (length u) k list)
+callFor u (radiusAt c) list = calls.ask (calls.radius c)
 
 -- how many entries are lent: 19 to a feed, k to a split
 abbrev pub entries : Question → ℕ

@@ -15,9 +15,9 @@ pub mod Drafts
 pub mod Runs
 pub mod Demands
 -- laws
-pub mod Passing
-pub mod Taking
-pub mod Meeting
-pub mod Reading
-pub mod Lending
-pub mod Showing
+pub mod RefusalLaws
+pub mod BookLaws
+pub mod WritingLaws
+pub mod ReadingLaws
+pub mod LentLaws
+pub mod ShowLaws

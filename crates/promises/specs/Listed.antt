@@ -7,7 +7,7 @@ use Prim.Native.Nat.{ℕ, _+_, _*_, _<_}
 use lib.ListN.{length}
 use Rattle.words.specs.Definitions.{mostPicks, mostSections, mostVisits, firstLetter, lastLetter, word, centre, Ending, Split, Named, Rising}
 use Rattle.promises.specs.Record.{recordOf}
-use Rattle.promises.specs.Book.{Book, Call, start, feed, split, longest, mask, radius, next, fold}
+use Rattle.promises.specs.Book.{Book, Call, start, feed, ask, split, longest, mask, radius, next, fold}
 
 -- a line's number, and what it is to meet it
 pub record Line : Type 1 where
@@ -87,23 +87,23 @@ noEnding u c = line 10 ((len : ℕ) → 0 < len → Ending (word u) (length u) l
 unfoldable pub listed : (n K : ℕ) → Call → List Line
 listed n K (start k) = outsideSections mostSections k ∷ []
 listed n K (feed pick visits) = noDraft n K ∷ noLetter pick ∷ shortList mostVisits (length visits) ∷ full n ∷ []
-listed n K (split i k ends) = noDraft n K ∷ outsideSections K k ∷ shortList k (length ends) ∷ prefixAbove n i ∷ []
-listed n K longest = noDraft n K ∷ []
-listed n K (mask i) = noDraft n K ∷ prefixAbove n i ∷ []
-listed n K (radius c) = noDraft n K ∷ centreOutside n c ∷ []
-listed n K (next c) = noDraft n K ∷ centreOutside n c ∷ []
-listed n K (fold i k output) = noDraft n K ∷ outsideSections K k ∷ prefixAbove n i ∷ []
+listed n K (ask (split i k ends)) = noDraft n K ∷ outsideSections K k ∷ shortList k (length ends) ∷ prefixAbove n i ∷ []
+listed n K (ask longest) = noDraft n K ∷ []
+listed n K (ask (mask i)) = noDraft n K ∷ prefixAbove n i ∷ []
+listed n K (ask (radius c)) = noDraft n K ∷ centreOutside n c ∷ []
+listed n K (ask (next c)) = noDraft n K ∷ centreOutside n c ∷ []
+listed n K (ask (fold i k output)) = noDraft n K ∷ outsideSections K k ∷ prefixAbove n i ∷ []
 
 -- and by the letters u: 9, 10, 5
 unfoldable pub sought : (u : List ℕ) → Call → List Line
 sought u (start k) = []
 sought u (feed pick visits) = []
-sought u (split i k ends) = noSplit u i k ∷ []
-sought u longest = []
-sought u (mask i) = []
-sought u (radius c) = []
-sought u (next c) = noEnding u c ∷ []
-sought u (fold i k output) = noSplit u i k ∷ recordLonger u i k output ∷ []
+sought u (ask (split i k ends)) = noSplit u i k ∷ []
+sought u (ask longest) = []
+sought u (ask (mask i)) = []
+sought u (ask (radius c)) = []
+sought u (ask (next c)) = noEnding u c ∷ []
+sought u (ask (fold i k output)) = noSplit u i k ∷ recordLonger u i k output ∷ []
 
 -- all of them, on a draft with what stands in the book
 abbrev pub lines : Book → Call → List Line

@@ -13,21 +13,15 @@ use Rattle.models.specs.Stores.{at}
 use Rattle.models.specs.Iterator.{longestOf, radiusOf}
 use Rattle.models.specs.Answers.{nextOf}
 use Rattle.models.specs.Splitting.{splitBy}
-use Rattle.cells.specs.declared.Place.{Place}
-use Rattle.cells.specs.declared.Centre.{Centre}
 use Rattle.promises.specs.declared.Draft.{Draft}
 use Rattle.promises.specs.declared.Started.{Started}
 use Rattle.promises.specs.declared.Fed.{Fed}
-use Rattle.promises.specs.declared.MaskAnswer.{MaskAnswer}
-use Rattle.promises.specs.declared.RadiusAnswer.{RadiusAnswer}
-use Rattle.promises.specs.declared.CentreAnswer.{CentreAnswer}
-use Rattle.promises.specs.declared.SplitAnswer.{SplitAnswer}
-use Rattle.promises.specs.declared.RecordAnswer.{RecordAnswer}
 use Rattle.promises.specs.declared.LiftAnswer.{LiftAnswer}
-use Rattle.promises.specs.Answers.{Said, gave, refused, reply, startSays, feedSays, maskSays, radiusSays, centreSays, splitSays, recordSays, liftSays}
+use Rattle.promises.specs.Answers.{Said, gave, refused, Reply, reply, startSays, feedSays, liftSays}
 use Rattle.promises.specs.Refusals.{startRefusal, feedRefusal, showRefusal}
-use Rattle.promises.specs.Book.{Book, write, feed, split, longest, mask, radius, next, fold}
-use Rattle.promises.specs.Replies.{startReply, maskReply, radiusReply, longestReply, nextReply, splitReply, recordReply, shown, liftReply, replyTo}
+use Rattle.promises.specs.Book.{Book, write, Query, start, feed, ask, split, longest, mask, radius, next, fold, lent}
+use Rattle.promises.specs.Record.{recordOf}
+use Rattle.promises.specs.Replies.{unless, orNoSplit, orNoEnding, orTooLong, gives, splitReply, recordReply, refusalOf, replyTo, shown, liftReply}
 use Rattle.promises.specs.State.{fresh, arraysOf, withPick}
 use Rattle.promises.specs.Holds.{Holds}
 
@@ -37,7 +31,7 @@ maskByte row = row / 2 % 256
 
 -- Start, on whatever was stored
 pub record StartPromise (d : Draft) (K : ℕ) (r : Started) : Type 0 where
-  pub says : reply (startSays (r .answer)) [] ≡ startReply K
+  pub says : (b : Book) → reply (startSays (r .answer)) [] ≡ replyTo b (start K)
   pub refuses : startRefusal K ≢ 0 → r .state ≡ d
   -- the whole state is written
   pub begins : startRefusal K ≡ 0 → r .state ≡ fresh K
@@ -68,39 +62,32 @@ pub record FeedPromise (d : Draft) (pick : ℕ) (before : List ℕ) (r : Fed) (a
 
 -- The calls that only read
 
-pub record MaskPromise (d : Draft) (i : Place) (r : MaskAnswer) : Type 0 where
-  pub meaning : (b : Book) → Holds d b → reply (maskSays r) [] ≡ replyTo b (mask (i .0))
-  pub computes : reply (maskSays r) [] ≡ maskReply (d .n) (d .k) (i .0) (maskByte (at (d .rows) (i .0)))
-
-pub record RadiusPromise (d : Draft) (c : Centre) (r : RadiusAnswer) : Type 0 where
-  pub meaning : (b : Book) → Holds d b → reply (radiusSays r) [] ≡ replyTo b (radius (c .0))
-  pub computes : reply (radiusSays r) [] ≡ radiusReply (d .n) (d .k) (c .0) (radiusOf (d .radius) (d .n) (longestOf (d .n) (d .longest .0)) (c .0))
-
-pub record LongestPromise (d : Draft) (r : CentreAnswer) : Type 0 where
-  pub meaning : (b : Book) → Holds d b → reply (centreSays r) [] ≡ replyTo b longest
-  pub computes : reply (centreSays r) [] ≡ longestReply (d .n) (d .k) (longestOf (d .n) (d .longest .0))
-
 -- the next shorter ending by the stored radii and links
 abbrev pub nextHeld : Draft → (c : ℕ) → Option ℕ
 nextHeld d c = nextOf (d .radius) (d .next) (d .n) (longestOf (d .n) (d .longest .0)) c
-
-pub record NextPromise (d : Draft) (c : Centre) (r : CentreAnswer) : Type 0 where
-  pub meaning : (b : Book) → Holds d b → reply (centreSays r) [] ≡ replyTo b (next (c .0))
-  pub computes : reply (centreSays r) [] ≡ nextReply (d .n) (d .k) (c .0) (nextHeld d (c .0))
 
 -- the split by the stored row words and radii
 abbrev pub splitHeld : Draft → (k i : ℕ) → Option (List ℕ)
 splitHeld d k i = splitBy (d .rows) (d .radius) (d .n) (longestOf (d .n) (d .longest .0)) k i
 
-pub record SplitPromise (d : Draft) (i : Place) (k : ℕ) (before : List ℕ) (r : SplitAnswer) (after : List ℕ) : Type 0 where
-  pub meaning : (b : Book) → Holds d b → reply (splitSays r) after ≡ replyTo b (split (i .0) k before)
-  pub computes : reply (splitSays r) after
-      ≡ splitReply (d .n) (d .k) (i .0) k before (splitHeld d k (i .0))
+-- what is found in the stored arrays, in reply to a query that passes the tests
+unfoldable pub foundIn : Draft → Query → Reply
+unfolding orNoSplit orTooLong recordOf
+foundIn d (split i k list) = splitReply (splitHeld d k i) list
+foundIn d longest = gives (longestOf (d .n) (d .longest .0) ∷ [])
+foundIn d (mask i) = gives (maskByte (at (d .rows) i) ∷ [])
+foundIn d (radius c) = gives (radiusOf (d .radius) (d .n) (longestOf (d .n) (d .longest .0)) c ∷ [])
+foundIn d (next c) = reply (orNoEnding (nextHeld d c)) []
+foundIn d (fold i k output) = recordReply (word (d .letters)) i (splitHeld d k i) output
 
-pub record RecordPromise (d : Draft) (i : Place) (k : ℕ) (before : List ℕ) (r : RecordAnswer) (after : List ℕ) : Type 0 where
-  pub meaning : (b : Book) → Holds d b → reply (recordSays r) after ≡ replyTo b (fold (i .0) k before)
-  pub computes : reply (recordSays r) after
-      ≡ recordReply (d .n) (d .k) (i .0) k before (word (d .letters)) (splitHeld d k (i .0))
+unfoldable pub computedTo : Draft → Query → Reply
+unfolding unless refusalOf lent foundIn
+computedTo d q = unless (refusalOf (d .n) (d .k) (ask q)) (lent (ask q)) (foundIn d q)
+
+-- one promise for all of them
+pub record Reads (d : Draft) (q : Query) (r : Reply) : Type 0 where
+  pub meaning : (b : Book) → Holds d b → r ≡ replyTo b (ask q)
+  pub computes : r ≡ computedTo d q
 
 -- The calls that are given no state
 

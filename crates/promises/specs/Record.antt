@@ -1,31 +1,10 @@
 -- The folded record: "fields in a fixed order parted by commas, no quoting, closed by byte 10. Picks, sections, then for each
 -- section its length and its first half of letters, the middle pick included"; and the section that show hands back.
-use mathlib.Core.Bool.{cond}
 use mathlib.Core.List.{List, [], _∷_, _++_}
-use Prim.Native.Nat.{ℕ, zero, suc, _+_, _-_, _/_, _%_}
-use lib.Dec.{ltb}
+use Prim.Native.Nat.{ℕ, _+_, _-_, _/_}
 use lib.ListN.{length, take, drop, getD}
 use Rattle.words.specs.Definitions.{stretch}
-
--- byte 44, byte 10, and the digit 0
-abbrev pub comma : ℕ
-comma = 44
-
-abbrev pub lineEnd : ℕ
-lineEnd = 10
-
-abbrev pub digitZero : ℕ
-digitZero = 48
-
--- the digits of n, at most so many of them
-unfoldable pub digits : ℕ → ℕ → List ℕ
-digits zero n = []
-digits (suc most) n = cond (ltb n 10) ((digitZero + n) ∷ []) (digits most (n / 10) ++ (digitZero + n % 10) ∷ [])
-
--- "Numbers are decimal without leading zeros": a number below 10 is its digit, any other the decimal of its tenth and its last digit
-unfoldable pub decimal : ℕ → List ℕ
-unfolding digits
-decimal n = digits (suc n) n
+use Rattle.text.specs.Definitions.{comma, lineEnd, decimal}
 
 -- the fields of the sections with these ends after the first a picks: each section's length, and its first half, rounded up
 unfoldable pub sectionFields : (ℕ → ℕ) → ℕ → List ℕ → List (List ℕ)

@@ -1,5 +1,5 @@
--- What each call replies. Each reply is a definition over n and K, the call's arguments, and what is found: the numbers that the
--- draft's letters decide. `replyTo` reads all of these from the plain book.
+-- What each call replies: refused under the number of the first test that fails, or what is found. `replyTo` reads all of it from the
+-- plain book.
 use mathlib.Core.Bool.{cond}
 use mathlib.Core.List.{List, [], _∷_}
 use mathlib.Core.Option.{Option, some, none}
@@ -13,7 +13,7 @@ use Rattle.promises.specs.Answers.{Said, gave, refused, Reply, reply, fi
 use Rattle.promises.specs.Refusals.{startRefusal, feedRefusal, maskRefusal, centreRefusal, longestRefusal, splitRefusal, recordRefusal, showRefusal, liftRefusal}
 use Rattle.promises.specs.Record.{recordOf, sectionOf}
 use Rattle.promises.specs.Lifts.{lift}
-use Rattle.promises.specs.Book.{Book, write, Call, start, feed, split, longest, mask, radius, next, fold, fedRow}
+use Rattle.promises.specs.Book.{Book, write, Call, start, feed, ask, split, longest, mask, radius, next, fold, lent, fedRow}
 
 -- "A refusal returns its number only; state and lent buffers keep every byte."
 unfoldable pub unless : (number : ℕ) (list : List ℕ) → Reply → Reply
@@ -35,68 +35,38 @@ unfoldable pub orTooLong : (bytes output : List ℕ) → Reply
 orTooLong bytes output =
     cond (leb (length bytes) (length output)) (reply (gave (length bytes ∷ [])) (filled bytes output)) (reply (refused 5) output)
 
--- The calls
+-- What is found, as a reply
 
-unfoldable pub startReply : (K : ℕ) → Reply
-unfolding unless startRefusal
-startReply K = unless (startRefusal K) [] (reply (gave []) [])
+-- values, and no list
+abbrev pub gives : (values : List ℕ) → Reply
+gives values = reply (gave values) []
 
 -- The mask's bits; "The lengths visited fill the front of the list, longest first; these entries are the pick's visits, and the count is
 -- their number."
-unfoldable pub feedReply : (n K pick : ℕ) (list : List ℕ) (bits : ℕ) (lengths : List ℕ) → Reply
-unfolding unless feedRefusal
-feedReply n K pick list bits lengths =
-    unless (feedRefusal n K pick (length list)) list (reply (gave (bits ∷ length lengths ∷ [])) (filled lengths list))
-
-unfoldable pub maskReply : (n K i bits : ℕ) → Reply
-unfolding unless maskRefusal
-maskReply n K i bits = unless (maskRefusal n K i) [] (reply (gave (bits ∷ [])) [])
-
-unfoldable pub radiusReply : (n K c half : ℕ) → Reply
-unfolding unless centreRefusal
-radiusReply n K c half = unless (centreRefusal n K c) [] (reply (gave (half ∷ [])) [])
-
-unfoldable pub longestReply : (n K centre : ℕ) → Reply
-unfolding unless longestRefusal
-longestReply n K centre = unless (longestRefusal n K) [] (reply (gave (centre ∷ [])) [])
-
-unfoldable pub nextReply : (n K c : ℕ) (found : Option ℕ) → Reply
-unfolding unless centreRefusal
-nextReply n K c found = unless (centreRefusal n K c) [] (reply (orNoEnding found) [])
+abbrev pub fedReply : (bits : ℕ) (lengths list : List ℕ) → Reply
+fedReply bits lengths list = reply (gave (bits ∷ length lengths ∷ [])) (filled lengths list)
 
 -- "It fills the first k entries of a lent list"; "the turn count, which is the number of sections"
-unfoldable pub splitReply : (n K i k : ℕ) (list : List ℕ) (found : Option (List ℕ)) → Reply
-unfolding unless splitRefusal orNoSplit
-splitReply n K i k list found =
-    unless (splitRefusal n K i k (length list)) list
-    (orNoSplit found list (λ ends. reply (gave (length ends ∷ [])) (filled ends list)))
+abbrev pub splitReply : (found : Option (List ℕ)) (list : List ℕ) → Reply
+splitReply found list = orNoSplit found list (λ ends. reply (gave (length ends ∷ [])) (filled ends list))
 
 -- w are the letters
-unfoldable pub recordReply : (n K i k : ℕ) (output : List ℕ) (w : ℕ → ℕ) (found : Option (List ℕ)) → Reply
-unfolding unless recordRefusal orNoSplit orTooLong recordOf
-recordReply n K i k output w found =
-    unless (recordRefusal n K i k) output (orNoSplit found output (λ ends. orTooLong (recordOf w i ends) output))
+abbrev pub recordReply : (w : ℕ → ℕ) (i : ℕ) (found : Option (List ℕ)) (output : List ℕ) → Reply
+recordReply w i found output = orNoSplit found output (λ ends. orTooLong (recordOf w i ends) output)
 
--- "A refused show hands back an empty part"
-unfoldable pub shown : (letters ends : List ℕ) (s : ℕ) → List ℕ
-unfolding unless showRefusal sectionOf
-shown letters ends s = unless (showRefusal letters ends s) [] (reply (gave []) (sectionOf letters ends s)) .list
-
-unfoldable pub liftReply : (letter : ℕ) → Reply
-unfolding unless liftRefusal
-liftReply letter = unless (liftRefusal letter) [] (reply (gave (lift letter ∷ [])) [])
+-- The calls
 
 -- A call's number by the tests that do not hang on the draft: n and K are those stored
 unfoldable pub refusalOf : (n K : ℕ) → Call → ℕ
 unfolding startRefusal feedRefusal maskRefusal centreRefusal longestRefusal splitRefusal recordRefusal
 refusalOf n K (start k) = startRefusal k
 refusalOf n K (feed pick list) = feedRefusal n K pick (length list)
-refusalOf n K (split i k list) = splitRefusal n K i k (length list)
-refusalOf n K longest = longestRefusal n K
-refusalOf n K (mask i) = maskRefusal n K i
-refusalOf n K (radius c) = centreRefusal n K c
-refusalOf n K (next c) = centreRefusal n K c
-refusalOf n K (fold i k output) = recordRefusal n K i k
+refusalOf n K (ask (split i k list)) = splitRefusal n K i k (length list)
+refusalOf n K (ask longest) = longestRefusal n K
+refusalOf n K (ask (mask i)) = maskRefusal n K i
+refusalOf n K (ask (radius c)) = centreRefusal n K c
+refusalOf n K (ask (next c)) = centreRefusal n K c
+refusalOf n K (ask (fold i k output)) = recordRefusal n K i k
 
 -- From the book
 
@@ -107,19 +77,35 @@ fedMask b pick = maskOf (b .K) (word (fedRow b pick)) (length (fedRow b pick))
 abbrev pub fedVisits : Book → ℕ → List ℕ
 fedVisits b pick = visits (word (fedRow b pick)) (length (fedRow b pick))
 
+-- what the book has in reply to a call that passes these tests
+unfoldable pub foundFor : Book → Call → Reply
+unfolding orNoSplit orTooLong recordOf
+foundFor b (start K) = gives []
+foundFor b (feed pick list) = fedReply (fedMask b pick) (fedVisits b pick) list
+foundFor b (ask (split i k list)) = splitReply (splitOf (word (b .row)) i k) list
+foundFor b (ask longest) = gives (longestCentre (word (b .row)) (length (b .row)) ∷ [])
+foundFor b (ask (mask i)) = gives (maskOf (b .K) (word (b .row)) i ∷ [])
+foundFor b (ask (radius c)) = gives (radiusAt (word (b .row)) (length (b .row)) c ∷ [])
+foundFor b (ask (next c)) = reply (orNoEnding (nextAfter (word (b .row)) (length (b .row)) c)) []
+foundFor b (ask (fold i k output)) = recordReply (word (b .row)) i (splitOf (word (b .row)) i k) output
+
 unfoldable pub replyTo : Book → Call → Reply
-unfolding startReply feedReply maskReply radiusReply longestReply nextReply splitReply recordReply
-replyTo b (start K) = startReply K
-replyTo b (feed pick list) = feedReply (length (b .row)) (b .K) pick list (fedMask b pick) (fedVisits b pick)
-replyTo b (split i k list) = splitReply (length (b .row)) (b .K) i k list (splitOf (word (b .row)) i k)
-replyTo b longest = longestReply (length (b .row)) (b .K) (longestCentre (word (b .row)) (length (b .row)))
-replyTo b (mask i) = maskReply (length (b .row)) (b .K) i (maskOf (b .K) (word (b .row)) i)
-replyTo b (radius c) = radiusReply (length (b .row)) (b .K) c (radiusAt (word (b .row)) (length (b .row)) c)
-replyTo b (next c) = nextReply (length (b .row)) (b .K) c (nextAfter (word (b .row)) (length (b .row)) c)
-replyTo b (fold i k output) = recordReply (length (b .row)) (b .K) i k output (word (b .row)) (splitOf (word (b .row)) i k)
+unfolding unless refusalOf lent foundFor
+replyTo b call = unless (refusalOf (length (b .row)) (b .K) call) (lent call) (foundFor b call)
 
 -- call by call, the book being written between
 unfoldable pub replies : Book → List Call → List Reply
 unfolding replyTo write
 replies b [] = []
 replies b (c ∷ cs) = replyTo b c ∷ replies (write b c) cs
+
+-- The calls that are given no state
+
+-- "A refused show hands back an empty part"
+unfoldable pub shown : (letters ends : List ℕ) (s : ℕ) → List ℕ
+unfolding unless showRefusal sectionOf
+shown letters ends s = unless (showRefusal letters ends s) [] (reply (gave []) (sectionOf letters ends s)) .list
+
+unfoldable pub liftReply : (letter : ℕ) → Reply
+unfolding unless liftRefusal
+liftReply letter = unless (liftRefusal letter) [] (gives (lift letter ∷ []))

@@ -8,7 +8,7 @@ use Rattle.words.specs.Definitions.{word, prefix, centre, Joined, Ending, Longe
 use Rattle.words.specs.Definitions.{radius as radiusOf}
 use Rattle.promises.specs.Answers.{gave, Reply, reply, filled}
 use Rattle.promises.specs.Record.{recordOf}
-use Rattle.promises.specs.Book.{Book, Call, start, feed, split, longest, mask, radius, next, fold, fedRow}
+use Rattle.promises.specs.Book.{Book, Call, start, feed, ask, split, longest, mask, radius, next, fold, fedRow}
 
 -- "the answer is yes exactly when the prefix is k non-empty palindromes joined": u are the picks, i the prefix; bit k - 1 is for k
 pub record Yes (K : ℕ) (u : List ℕ) (i m : ℕ) : Type 0 where
@@ -66,12 +66,12 @@ pub record RecordSays (u : List ℕ) (i k : ℕ) (output : List ℕ) (r : Reply)
 unfoldable pub Says : Book → Call → Reply → Type 0
 Says b (start k) r = r ≡ reply (gave []) []
 Says b (feed pick visits) r = FeedSays (b .K) (fedRow b pick) visits r
-Says b (split i k ends) r = SplitSays (b .row) i k ends r
-Says b longest r = LongestSays (b .row) r
-Says b (mask i) r = MaskSays (b .K) (b .row) i r
-Says b (radius c) r = RadiusSays (b .row) c r
-Says b (next c) r = NextSays (b .row) c r
-Says b (fold i k output) r = RecordSays (b .row) i k output r
+Says b (ask (split i k ends)) r = SplitSays (b .row) i k ends r
+Says b (ask longest) r = LongestSays (b .row) r
+Says b (ask (mask i)) r = MaskSays (b .K) (b .row) i r
+Says b (ask (radius c)) r = RadiusSays (b .row) c r
+Says b (ask (next c)) r = NextSays (b .row) c r
+Says b (ask (fold i k output)) r = RecordSays (b .row) i k output r
 
 -- "The section is handed back as that part of the lent letters itself": section s begins where the one before it ends, section 1 at 0
 pub record PartOf (letters ends : List ℕ) (s : ℕ) (part : List ℕ) : Type 0 where

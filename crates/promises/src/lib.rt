@@ -4,6 +4,13 @@ use cells::ByPlace;
 use cells::Centre;
 use cells::Letters;
 
+// The numbers of the refusals that come after a search: no split, no ending with the centre, a record longer than the output.
+pub const NO_SPLIT: u8 = 9;
+
+pub const NO_ENDING: u8 = 10;
+
+pub const TOO_LONG: u8 = 5;
+
 // The state of the board. Any numbers may be stored in it; a start does not look at them, and makes it an empty draft.
 pub struct Draft {
     // The picks so far, and K.

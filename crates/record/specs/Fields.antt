@@ -1,12 +1,15 @@
 -- The record in the order in which it is written: the head, section by section, the end of the line; and how long each is.
 use mathlib.Core.Path.{_≡_, refl, sym, ap, _∙_}
 use mathlib.Core.List.{List, [], _∷_, _++_, append-assoc}
-use Prim.Native.Nat.{ℕ, zero, suc, _+_, _-_, _/_, _<_}
+use Prim.Native.Nat.{ℕ, suc, _+_, _-_, _/_, _<_}
 use native.Mathlib.Omega.{arith}
 use lib.ListN.{length, getD, drop, length-append}
 use lib.Seq.{drop-cons}
 use Rattle.words.specs.Definitions.{stretch}
-use Rattle.promises.specs.Record.{comma, lineEnd, decimal, sectionFields, behindCommas, recordOf}
+use Rattle.words.specs.Mirror.{stretch-length}
+use Rattle.text.specs.Definitions.{comma, lineEnd, decimal}
+use Rattle.text.specs.Decimal.{mostDigits}
+use Rattle.promises.specs.Record.{sectionFields, behindCommas, recordOf}
 
 -- One section, between the ends a and e: a comma, its length, a comma, its first half
 unfoldable pub sectionBytes : (ℕ → ℕ) → ℕ → ℕ → List ℕ
@@ -51,9 +54,9 @@ record-as w i ends =
 unfoldable pub sectionSize : ℕ → ℕ → ℕ
 sectionSize a e = length (decimal (e - a)) + (e - a + 1) / 2 + 2
 
--- ends are 16 bits wide: two commas, five digits, half of 65,535 letters
+-- ends are 16 bits wide: two commas, the digits, half of 65,535 letters
 abbrev pub mostSectionSize : ℕ
-mostSectionSize = 32775
+mostSectionSize = 2 + mostDigits + 32768
 
 unfoldable pub sectionsSize : ℕ → List ℕ → ℕ
 unfolding sectionSize
@@ -63,16 +66,12 @@ sectionsSize a (e ∷ ends) = sectionSize a e + sectionsSize e ends
 unfoldable pub headSize : ℕ → ℕ → ℕ
 headSize i count = length (decimal i) + length (decimal count) + 1
 
-pub length-stretch : (w : ℕ → ℕ) (a len : ℕ) → length (stretch w a len) ≡ len
-length-stretch w a zero = refl
-length-stretch w a (suc len) = ap suc (length-stretch w (suc a) len)
-
 length-section : (w : ℕ → ℕ) (a e : ℕ) → length (sectionBytes w a e) ≡ sectionSize a e
 unfolding sectionBytes sectionSize
 length-section w a e =
     let n = decimal (e - a) in
     let half = stretch w a ((e - a + 1) / 2) in
-    omega (arith, length-append (n ++ comma ∷ []) half, length-append n (comma ∷ []), length-stretch w a ((e - a + 1) / 2))
+    omega (arith, length-append (n ++ comma ∷ []) half, length-append n (comma ∷ []), stretch-length w a ((e - a + 1) / 2))
 
 length-sections : (w : ℕ → ℕ) (a : ℕ) (ends : List ℕ) → length (sectionsBytes w a ends) ≡ sectionsSize a ends
 unfolding sectionsSize

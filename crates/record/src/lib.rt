@@ -4,31 +4,27 @@ ghost use Prim.Native.Nat.{ℕ, _+_, _*_, _≤_};
 ghost use lib.ListN.{length};
 ghost use lib.Seq.{sets};
 ghost use Rattle.words.specs.Definitions.{mostPicks, mostSections, word};
+ghost use Rattle.text.specs.Writes.{Writes};
+ghost use Rattle.text.specs.Decimal.{mostDigits};
 ghost use Rattle.promises.specs.Answers.{recordSays, reply};
 ghost use Rattle.promises.specs.Record.{recordOf};
 ghost use Rattle.promises.specs.Replies.{orTooLong};
-ghost use Rattle.record.specs.Stores.{Writes};
-ghost use Rattle.record.specs.Decimal.{mostDigits};
 ghost use Rattle.record.specs.Fields.{headBytes};
 
-pub mod bytes;
-mod decimal;
 mod section;
 mod sections;
 
-use crate::bytes::write_byte;
-use crate::decimal::digit_count;
-use crate::decimal::write_decimal;
 use crate::sections::sections_size;
 use crate::sections::write_sections;
-use cells::COMMA;
-use cells::LINE_END;
 use cells::Letters;
 use cells::Place;
 use promises::RecordAnswer;
-
-// The number of "record longer than the lent output".
-const TOO_LONG: u8 = 5;
+use promises::TOO_LONG;
+use text::COMMA;
+use text::LINE_END;
+use text::bytes::write_byte;
+use text::decimal::digit_count;
+use text::decimal::write_decimal;
 
 // The count of bytes of the record of prefix i in the sections with these ends; whatever the letters are.
 pub fn record_size(i: Place, ends: &[u16]) -> usize

@@ -2,15 +2,15 @@
 ghost use mathlib.Core.Path.{_≡_};
 ghost use Prim.Native.Nat.{_+_, _/_, _≤_, _<_};
 ghost use Rattle.words.specs.Definitions.{word};
-ghost use Rattle.record.specs.Stores.{Writes, far};
+ghost use Rattle.text.specs.Writes.{Writes, far};
 ghost use Rattle.record.specs.Fields.{sectionSize, sectionBytes, mostSectionSize};
-use crate::bytes::write_byte;
-use crate::bytes::write_letters;
-use crate::decimal::digit_count;
-use crate::decimal::write_decimal;
-use cells::COMMA;
 use cells::Letters;
 use cells::minus;
+use text::COMMA;
+use text::bytes::write_byte;
+use text::bytes::write_letters;
+use text::decimal::digit_count;
+use text::decimal::write_decimal;
 
 // How many letters of a section of this length are written: half of them, the middle pick included.
 fn first_half(length: usize) -> usize

@@ -1,14 +1,20 @@
 // The sections of the record, one after another; each begins where the one before it ends.
 ghost use mathlib.Core.Path.{_≡_};
-ghost use Prim.Native.Nat.{_+_, _*_, _≤_};
-ghost use lib.ListN.{length};
+ghost use Prim.Native.Nat.{_+_, _*_, _≤_, _<_};
+ghost use lib.ListN.{length, getD};
 ghost use Rattle.words.specs.Definitions.{mostSections, word};
-ghost use Rattle.record.specs.Stores.{Writes, far};
+ghost use Rattle.text.specs.Writes.{Writes, far};
 ghost use Rattle.record.specs.Fields.{mostSectionSize, sectionsSize, sectionsBytes};
-use crate::bytes::end_of;
 use crate::section::section_size;
 use crate::section::write_section;
 use cells::Letters;
+
+// The end of section j; 0 where there is none.
+fn end_of(ends: &[u16], j: usize) -> usize
+    ensures { λ r. ⌜ (r ≡ getD (now (ends .entry)) j 0) × (r < 65536) ⌝ }
+{
+    if j < ends.len() { ends[j] as usize } else { 0 }
+}
 
 // The count of bytes of the sections with these ends.
 pub fn sections_size(ends: &[u16]) -> usize

@@ -2,19 +2,20 @@
 // Number 6 stands with show; 9, 10 and 5 come after a search, with the calls that make it.
 ghost use mathlib.Core.Path.{_≡_};
 ghost use Rattle.promises.specs.Refusals.{line1, line2, line3, line4, line7, line8, startRefusal, feedRefusal, maskRefusal, centreRefusal, longestRefusal, splitRefusal, recordRefusal, liftRefusal};
-ghost use Rattle.promises.specs.Passing.{orElse};
+ghost use Rattle.promises.specs.RefusalLaws.{orElse};
 ghost use Prim.Native.Nat.{_+_, _*_, _≤_};
 ghost use Rattle.words.specs.Definitions.{mostPicks};
 use cells::Centre;
 use cells::FIRST_LETTER;
 use cells::LAST_LETTER;
+use cells::Numbers;
 use cells::PICKS;
 use cells::Place;
 use cells::SECTIONS;
 use cells::VISITS;
 
 // 1: k outside 1 to most.
-pub fn line1(most: usize, k: u8) -> u8
+fn line1(most: usize, k: u8) -> u8
     ensures { λ r. ⌜ r ≡ line1 most k 0 ⌝ }
 {
     if k < 1 {
@@ -27,7 +28,7 @@ pub fn line1(most: usize, k: u8) -> u8
 }
 
 // 2: a byte that is not A to Z.
-pub fn line2(pick: u8) -> u8
+fn line2(pick: u8) -> u8
     ensures { λ r. ⌜ r ≡ line2 pick 0 ⌝ }
 {
     if pick < FIRST_LETTER {
@@ -40,7 +41,7 @@ pub fn line2(pick: u8) -> u8
 }
 
 // 3: a list that is too short.
-pub fn line3(least: usize, entries: usize) -> u8
+fn line3(least: usize, entries: usize) -> u8
     ensures { λ r. ⌜ r ≡ line3 least entries 0 ⌝ }
 {
     if entries < least {
@@ -63,23 +64,23 @@ pub fn line4(low: usize, high: usize, x: usize) -> u8
 }
 
 // 7: a stored n or K that no draft has.
-pub fn line7(n: usize, most: usize) -> u8
-    ensures { λ r. ⌜ r ≡ line7 n most 0 ⌝ }
+fn line7(n: usize, sections: usize) -> u8
+    ensures { λ r. ⌜ r ≡ line7 n sections 0 ⌝ }
 {
     if PICKS < n {
         return 7;
     }
-    if most < 1 {
+    if sections < 1 {
         return 7;
     }
-    if SECTIONS < most {
+    if SECTIONS < sections {
         return 7;
     }
     0
 }
 
 // 8: no room for a pick.
-pub fn line8(n: usize) -> u8
+fn line8(n: usize) -> u8
     ensures { λ r. ⌜ r ≡ line8 n 0 ⌝ }
 {
     if PICKS <= n {
@@ -103,21 +104,21 @@ pub fn start_refusal(k: u8) -> u8
     line1(SECTIONS, k)
 }
 
-pub fn feed_refusal(n: usize, k: usize, pick: u8, entries: usize) -> u8
-    ensures { λ r. ⌜ r ≡ feedRefusal n k pick entries ⌝ }
+pub fn feed_refusal(held: Numbers, pick: u8, entries: usize) -> u8
+    ensures { λ r. ⌜ r ≡ feedRefusal (held .n) (held .k) pick entries ⌝ }
 {
-    let state = line7(n, k);
+    let state = line7(held.n, held.k);
     let letter = line2(pick);
     let list = line3(VISITS, entries);
-    let room = line8(n);
+    let room = line8(held.n);
     first(state, first(letter, first(list, room)))
 }
 
-pub fn mask_refusal(n: usize, k: usize, i: Place) -> u8
-    ensures { λ r. ⌜ r ≡ maskRefusal n k (i .0) ⌝ }
+pub fn mask_refusal(held: Numbers, i: Place) -> u8
+    ensures { λ r. ⌜ r ≡ maskRefusal (held .n) (held .k) (i .0) ⌝ }
 {
-    let state = line7(n, k);
-    let prefix = line4(0, n, i.0);
+    let state = line7(held.n, held.k);
+    let prefix = line4(0, held.n, i.0);
     first(state, prefix)
 }
 
@@ -131,36 +132,36 @@ fn last_centre(n: usize) -> usize
     0
 }
 
-pub fn centre_refusal(n: usize, k: usize, c: Centre) -> u8
-    ensures { λ r. ⌜ r ≡ centreRefusal n k (c .0) ⌝ }
+pub fn centre_refusal(held: Numbers, c: Centre) -> u8
+    ensures { λ r. ⌜ r ≡ centreRefusal (held .n) (held .k) (c .0) ⌝ }
 {
-    let state = line7(n, k);
-    let centre = line4(1, last_centre(n), c.0);
+    let state = line7(held.n, held.k);
+    let centre = line4(1, last_centre(held.n), c.0);
     first(state, centre)
 }
 
-pub fn longest_refusal(n: usize, k: usize) -> u8
-    ensures { λ r. ⌜ r ≡ longestRefusal n k ⌝ }
+pub fn longest_refusal(held: Numbers) -> u8
+    ensures { λ r. ⌜ r ≡ longestRefusal (held .n) (held .k) ⌝ }
 {
-    line7(n, k)
+    line7(held.n, held.k)
 }
 
-pub fn split_refusal(n: usize, most: usize, i: Place, k: u8, entries: usize) -> u8
-    ensures { λ r. ⌜ r ≡ splitRefusal n most (i .0) k entries ⌝ }
+pub fn split_refusal(held: Numbers, i: Place, k: u8, entries: usize) -> u8
+    ensures { λ r. ⌜ r ≡ splitRefusal (held .n) (held .k) (i .0) k entries ⌝ }
 {
-    let state = line7(n, most);
-    let sections = line1(most, k);
+    let state = line7(held.n, held.k);
+    let sections = line1(held.k, k);
     let list = line3(k as usize, entries);
-    let prefix = line4(0, n, i.0);
+    let prefix = line4(0, held.n, i.0);
     first(state, first(sections, first(list, prefix)))
 }
 
-pub fn record_refusal(n: usize, most: usize, i: Place, k: u8) -> u8
-    ensures { λ r. ⌜ r ≡ recordRefusal n most (i .0) k ⌝ }
+pub fn record_refusal(held: Numbers, i: Place, k: u8) -> u8
+    ensures { λ r. ⌜ r ≡ recordRefusal (held .n) (held .k) (i .0) k ⌝ }
 {
-    let state = line7(n, most);
-    let sections = line1(most, k);
-    let prefix = line4(0, n, i.0);
+    let state = line7(held.n, held.k);
+    let sections = line1(held.k, k);
+    let prefix = line4(0, held.n, i.0);
     first(state, first(sections, prefix))
 }
 

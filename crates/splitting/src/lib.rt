@@ -5,11 +5,12 @@ ghost use lib.Dec.{eqb};
 ghost use Rattle.words.specs.Definitions.{mostPicks, mostSections, bit};
 ghost use Rattle.models.specs.Iterator.{longestOf};
 ghost use Rattle.models.specs.Splitting.{startsAt, firstStart, splitBy};
-ghost use Rattle.models.specs.SplitTurns.{Stores};
+ghost use Rattle.models.specs.SplitCode.{Stores};
 ghost use Rattle.splitting.specs.Says.{firstSays};
 use cells::ByCentre;
 use cells::ByPlace;
 use cells::Centre;
+use cells::Numbers;
 use cells::Place;
 use cells::at_place;
 use cells::narrow;
@@ -33,20 +34,12 @@ fn centre_between(j: Place, i: Place) -> Centre
 }
 
 // Whether prefix j splits into k sections and picks j + 1 to i are one more. Constant work: a bit and a radius.
-fn starts_at(
-    rows: &ByPlace,
-    radius: &ByCentre,
-    n: usize,
-    longest: Centre,
-    k: u8,
-    i: Place,
-    j: Place,
-) -> bool
-    requires { ⌜ (n ≤ mostPicks) × (k ≤ mostSections) × (i .0 ≤ mostPicks) × (j .0 < i .0) ⌝ }
-    ensures { λ r. ⌜ r ≡ startsAt (now (rows .entry)) (now (radius .entry)) n (longestOf n (longest .0)) k (i .0) (j .0) ⌝ }
+fn starts_at(rows: &ByPlace, radius: &ByCentre, held: Numbers, k: u8, i: Place, j: Place) -> bool
+    requires { ⌜ (held .n ≤ mostPicks) × (k ≤ mostSections) × (i .0 ≤ mostPicks) × (j .0 < i .0) ⌝ }
+    ensures { λ r. ⌜ r ≡ startsAt (now (rows .entry)) (now (radius .entry)) (held .n) (longestOf (held .n) (held .longest .0)) k (i .0) (j .0) ⌝ }
 {
     if has_bit(at_place(rows, j), k) {
-        let r = radius_at(radius, n, longest, centre_between(j, i));
+        let r = radius_at(radius, held.n, held.longest, centre_between(j, i));
         return (i.0 - j.0) / 2 <= r;
     }
     false
@@ -59,21 +52,14 @@ pub enum First {
 }
 
 // The first start of a last section of prefix i whose rest splits into k: tried from place 0 upward.
-fn first_start(
-    rows: &ByPlace,
-    radius: &ByCentre,
-    n: usize,
-    longest: Centre,
-    k: u8,
-    i: Place,
-) -> First
-    requires { ⌜ (n ≤ mostPicks) × (k ≤ mostSections) × (i .0 ≤ mostPicks) ⌝ }
-    ensures { λ r. ⌜ firstSays r ≡ firstStart (now (rows .entry)) (now (radius .entry)) n (longestOf n (longest .0)) k (i .0) (i .0) 0 ⌝ }
+fn first_start(rows: &ByPlace, radius: &ByCentre, held: Numbers, k: u8, i: Place) -> First
+    requires { ⌜ (held .n ≤ mostPicks) × (k ≤ mostSections) × (i .0 ≤ mostPicks) ⌝ }
+    ensures { λ r. ⌜ firstSays r ≡ firstStart (now (rows .entry)) (now (radius .entry)) (held .n) (longestOf (held .n) (held .longest .0)) k (i .0) (i .0) 0 ⌝ }
 {
     let mut j = 0usize;
     let end = i.0;
     while j < end {
-        if starts_at(rows, radius, n, longest, k, i, Place(j)) {
+        if starts_at(rows, radius, held, k, i, Place(j)) {
             return First::At(Place(j));
         }
         j = j + 1;
@@ -85,23 +71,22 @@ fn first_start(
 pub fn split_from(
     rows: &ByPlace,
     radius: &ByCentre,
-    n: usize,
-    longest: Centre,
+    held: Numbers,
     i: Place,
     k: u8,
     ends: &mut [u16],
 ) -> bool
-    requires { ⌜ (n ≤ mostPicks) × (k ≤ mostSections) × (i .0 ≤ mostPicks) ⌝ }
-    ensures { λ r. ⌜ Stores (splitBy (now (rows .entry)) (now (radius .entry)) n (longestOf n (longest .0)) k (i .0)) (now (ends .entry)) r (now (ends .exit)) ⌝ }
+    requires { ⌜ (held .n ≤ mostPicks) × (k ≤ mostSections) × (i .0 ≤ mostPicks) ⌝ }
+    ensures { λ r. ⌜ Stores (splitBy (now (rows .entry)) (now (radius .entry)) (held .n) (longestOf (held .n) (held .longest .0)) k (i .0)) (now (ends .entry)) r (now (ends .exit)) ⌝ }
 {
     if k == 0 {
         return i.0 == 0;
     }
-    let found = first_start(rows, radius, n, longest, k - 1, i);
+    let found = first_start(rows, radius, held, k - 1, i);
     match found {
         First::Missing => false,
         First::At(j) => {
-            if split_from(rows, radius, n, longest, j, k - 1, ends) {
+            if split_from(rows, radius, held, j, k - 1, ends) {
                 store(ends, (k - 1) as usize, narrow(i.0));
                 return true;
             }

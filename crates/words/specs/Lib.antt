@@ -12,6 +12,7 @@ pub mod FewVisits
 pub mod Proposition3
 pub mod Gathering
 pub mod Bits
+pub mod Cases
 pub mod Splits
 pub mod Rows
 pub mod Prefixes

@@ -8,6 +8,7 @@ use native.Mathlib.Omega.{arith}
 use native.Mathlib.Decide.{decLe, decLt, ℕ-discrete}
 use lib.ListN.{length, take, drop, length-append}
 use lib.Seq.{take-at, drop-at}
+use Rattle.words.specs.Cases.{clash}
 use Rattle.words.specs.Definitions.{stretch, prefix, Section, Joined, nothing, another, Ending, Sections, done, next, Split, lengthsBack, Smaller, here, further, Before, Named}
 use Rattle.words.specs.Mirror.{stretch-length, stretch-join, ending?, section-ending, ending-section}
 use Rattle.words.specs.Computed.{cutLast, splitOf, splits}
@@ -109,8 +110,8 @@ module _ (w : ℕ → ℕ) (n k : ℕ) (rest : ℕ → Option (List ℕ)) (law :
           → (Top m → Splitting w n (suc k) (cutLast w n rest m)) → Splitting w n (suc k) (cutLast w n rest (suc m))
       go (no f) e o q r on = rw (e, cutLast) (on (lower m l top (λ s x y. f (section-ending (omega arith) x))))
       go (yes f) e none q (lacking p g) on = rw (e, q, cutLast) (on (lower m l top (λ s x y. g s y)))
-      go (yes f) e none q (given s p h) on = let z : _≡_ {A = ℕ} 0 1 = cc in absurd (omega arith)
-      go (yes f) e (some s) q (lacking p g) on = let z : _≡_ {A = ℕ} 0 1 = cc in absurd (omega arith)
+      go (yes f) e none q (given s p h) on = clash cc
+      go (yes f) e (some s) q (lacking p g) on = clash cc
       go (yes f) e (some s) q (given t p h) on =
           let z : t ≡ s = cc in
           let l : Section w (n - suc m) n = ending-section (omega arith) (omega arith) f in

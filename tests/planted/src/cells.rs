@@ -33,6 +33,42 @@ pub type ByPlace = [u16; PICKS + 1];
 /// A number of 16 bits for each centre.
 pub type ByCentre = [u16; 2 * PICKS + 2];
 
+/// The lanes by centre.
+pub type Centres = [ByCentre; 4];
+
+/// The radii.
+pub const RADIUS: usize = 0;
+
+/// The centre after each in its lend list.
+pub const LENDS: usize = 1;
+
+/// The list of the endings' centres, forward.
+pub const NEXT: usize = 2;
+
+/// The same list, back.
+pub const PREV: usize = 3;
+
+/// The lanes by place.
+pub type Places = [ByPlace; 3];
+
+/// The first centre of each place's lend list.
+pub const HEADS: usize = 0;
+
+/// The row words.
+pub const ROWS: usize = 1;
+
+/// The gathered words.
+pub const GATHERED: usize = 2;
+
+/// The numbers of the state: the picks so far, K, the stored centre of the longest
+/// ending.
+#[derive(Clone, Copy)]
+pub struct Numbers {
+    pub n: usize,
+    pub k: usize,
+    pub longest: Centre,
+}
+
 /// The entry at i.
 pub fn at<T: Copy + Default>(entries: &[T], i: usize) -> T {
     entries.get(i).copied().unwrap_or_default()
@@ -46,23 +82,23 @@ pub fn store<T>(entries: &mut [T], i: usize, value: T) {
 }
 
 /// The number at a centre.
-pub fn at_centre(array: &ByCentre, c: Centre) -> usize {
-    usize::from(at(array, c.0))
+pub fn at_centre(lane: &ByCentre, c: Centre) -> usize {
+    usize::from(at(lane, c.0))
 }
 
-/// Stores a number, which fits 16 bits, at a centre.
-pub fn store_at_centre(array: &mut ByCentre, c: Centre, number: usize) {
-    store(array, c.0, number as u16);
+/// Stores a number, which fits 16 bits, at a centre of a lane.
+pub fn store_at_centre(centres: &mut Centres, lane: usize, c: Centre, number: usize) {
+    store(&mut centres[lane], c.0, number as u16);
 }
 
 /// The word at a place.
-pub fn at_place(array: &ByPlace, i: Place) -> u16 {
-    at(array, i.0)
+pub fn at_place(lane: &ByPlace, i: Place) -> u16 {
+    at(lane, i.0)
 }
 
-/// Stores a word at a place.
-pub fn store_at_place(array: &mut ByPlace, i: Place, word: u16) {
-    store(array, i.0, word);
+/// Stores a word at a place of a lane.
+pub fn store_at_place(places: &mut Places, lane: usize, i: Place, word: u16) {
+    store(&mut places[lane], i.0, word);
 }
 
 /// The letter of the pick after place i.

@@ -5,24 +5,27 @@
 //! its name; `state` holds the declarations of `promises`, and `scripts` what `drive`
 //! does. The program `draft` beside it is the copy of `crates/draft`.
 
-pub mod asking;
-pub mod board;
+pub mod calls;
 pub mod cells;
 pub mod engine;
-pub mod feeding;
 pub mod iterator;
 pub mod record;
 pub mod refusals;
 pub mod scripts;
 pub mod splitting;
 pub mod state;
+pub mod text;
 
-use cells::{store, ByCentre, ByPlace, Centre, Letters};
+use calls::lift::lift;
+use calls::show::{show, show_number};
+use cells::{Centre, Centres, Letters, Numbers, Places};
 use scripts::Lent;
 use state::State;
 use std::slice::{from_raw_parts, from_raw_parts_mut};
+use text::bytes::write_bytes;
 
-/// The calls of the script, one after the other; gives their number.
+/// The calls of the script, one after the other; gives their number. No call reads the
+/// input.
 ///
 /// # Safety
 ///
@@ -30,16 +33,13 @@ use std::slice::{from_raw_parts, from_raw_parts_mut};
 #[no_mangle]
 pub unsafe extern "C" fn drive(
     letters: &mut Letters,
-    radius: &mut ByCentre,
-    heads: &mut ByPlace,
-    lends: &mut ByCentre,
-    next: &mut ByCentre,
-    prev: &mut ByCentre,
-    rows: &mut ByPlace,
-    gathered: &mut ByPlace,
+    centres: &mut Centres,
+    places: &mut Places,
     numbers: &mut [usize; 3],
     script: *const u8,
     script_len: usize,
+    _input: *const u8,
+    _input_len: usize,
     lists: *mut u16,
     lists_len: usize,
     bytes: *mut u8,
@@ -48,17 +48,14 @@ pub unsafe extern "C" fn drive(
     answers_len: usize,
 ) -> usize {
     let state = State {
-        n: numbers[0],
-        k: numbers[1],
-        longest: Centre(numbers[2]),
+        numbers: Numbers {
+            n: numbers[0],
+            k: numbers[1],
+            longest: Centre(numbers[2]),
+        },
         letters,
-        radius,
-        heads,
-        lends,
-        next,
-        prev,
-        rows,
-        gathered,
+        centres,
+        places,
     };
     let lent = Lent {
         script: from_raw_parts(script, script_len),
@@ -89,12 +86,10 @@ pub unsafe extern "C" fn drive_show(
     let letters = from_raw_parts(letters, letters_len);
     let ends = from_raw_parts(ends, ends_len);
     let part = from_raw_parts_mut(part, part_len);
-    let number = board::show::show_number(letters, ends, s);
-    let section = board::show::show(letters, ends, s);
+    let number = show_number(letters, ends, s);
+    let section = show(letters, ends, s);
     *answer = [usize::from(number), section.len()];
-    for (j, &letter) in section.iter().enumerate() {
-        store(part, j, letter);
-    }
+    write_bytes(section, part, 0);
     0
 }
 
@@ -102,7 +97,7 @@ pub unsafe extern "C" fn drive_show(
 /// refusal.
 #[no_mangle]
 pub extern "C" fn drive_lift(letter: u8, answer: &mut [usize; 2]) -> usize {
-    *answer = match board::lift::lift(letter) {
+    *answer = match lift(letter) {
         Ok(lift) => [0, usize::from(lift)],
         Err(number) => [1, usize::from(number)],
     };

@@ -1,18 +1,14 @@
 //! The folded record: its count of bytes, and writing it into a lent output. Each
 //! function that writes gives the place after what it wrote.
 
-mod bytes;
-mod decimal;
 mod section;
 
 use crate::cells::{Letters, Place};
 use crate::state::Answer;
-use bytes::write_byte;
-use decimal::{digit_count, write_decimal};
-use section::{sections_size, write_sections, COMMA};
-
-/// The byte that closes a record.
-const LINE_END: u8 = 10;
+use crate::text::bytes::write_byte;
+use crate::text::decimal::{digit_count, write_decimal};
+use crate::text::{COMMA, LINE_END};
+use section::{sections_size, write_sections};
 
 /// The count of bytes of the record of prefix i in the sections with these ends.
 fn record_size(i: Place, ends: &[u16]) -> usize {

@@ -2,8 +2,8 @@
 //! first that it meets. 0 is none. Number 6 stands with show; 9, 10 and 5 come after a
 //! search, with the calls that make it.
 
-use crate::cells::{Centre, Place, FIRST_LETTER, LAST_LETTER, PICKS, SECTIONS, VISITS};
-use crate::state::{Answer, State};
+use crate::cells::{Centre, Numbers, Place, FIRST_LETTER, LAST_LETTER, PICKS, SECTIONS, VISITS};
+use crate::state::Answer;
 
 /// The number where its line is met, else 0.
 fn line(number: u8, met: bool) -> u8 {
@@ -58,18 +58,18 @@ pub fn start_refusal(sections: usize) -> Answer<()> {
 }
 
 /// Feed.
-pub fn feed_refusal(state: &State, pick: u8, entries: usize) -> Answer<()> {
-    let stored = line7(state.n, state.k);
+pub fn feed_refusal(held: Numbers, pick: u8, entries: usize) -> Answer<()> {
+    let stored = line7(held.n, held.k);
     let letter = line2(pick);
     let list = line3(VISITS, entries);
-    let room = line8(state.n);
+    let room = line8(held.n);
     first(&[stored, letter, list, room])
 }
 
 /// The mask of prefix i.
-pub fn mask_refusal(state: &State, i: Place) -> Answer<()> {
-    let stored = line7(state.n, state.k);
-    let prefix = line4(0, state.n, i.0);
+pub fn mask_refusal(held: Numbers, i: Place) -> Answer<()> {
+    let stored = line7(held.n, held.k);
+    let prefix = line4(0, held.n, i.0);
     first(&[stored, prefix])
 }
 
@@ -83,31 +83,31 @@ fn last_centre(n: usize) -> usize {
 }
 
 /// The radius at a centre, and the next shorter ending after it.
-pub fn centre_refusal(state: &State, c: Centre) -> Answer<()> {
-    let stored = line7(state.n, state.k);
-    let centre = line4(1, last_centre(state.n), c.0);
+pub fn centre_refusal(held: Numbers, c: Centre) -> Answer<()> {
+    let stored = line7(held.n, held.k);
+    let centre = line4(1, last_centre(held.n), c.0);
     first(&[stored, centre])
 }
 
 /// The centre of the longest ending.
-pub fn longest_refusal(state: &State) -> Answer<()> {
-    first(&[line7(state.n, state.k)])
+pub fn longest_refusal(held: Numbers) -> Answer<()> {
+    first(&[line7(held.n, held.k)])
 }
 
 /// Split.
-pub fn split_refusal(state: &State, i: Place, k: usize, entries: usize) -> Answer<()> {
-    let stored = line7(state.n, state.k);
-    let sections = line1(state.k, k);
+pub fn split_refusal(held: Numbers, i: Place, k: usize, entries: usize) -> Answer<()> {
+    let stored = line7(held.n, held.k);
+    let sections = line1(held.k, k);
     let list = line3(k, entries);
-    let prefix = line4(0, state.n, i.0);
+    let prefix = line4(0, held.n, i.0);
     first(&[stored, sections, list, prefix])
 }
 
 /// The folded record.
-pub fn record_refusal(state: &State, i: Place, k: usize) -> Answer<()> {
-    let stored = line7(state.n, state.k);
-    let sections = line1(state.k, k);
-    let prefix = line4(0, state.n, i.0);
+pub fn record_refusal(held: Numbers, i: Place, k: usize) -> Answer<()> {
+    let stored = line7(held.n, held.k);
+    let sections = line1(held.k, k);
+    let prefix = line4(0, held.n, i.0);
     first(&[stored, sections, prefix])
 }
 

@@ -4,14 +4,14 @@ mod make;
 mod request;
 mod told;
 
-use crate::cells::store;
+use crate::cells::{store, Numbers};
 use crate::state::State;
 use make::make;
 use request::request_at;
-use told::Told;
+use told::{Told, ANSWER_NUMBERS};
 
 /// What a script is lent beside the state: the entries of the lists and the bytes of the
-/// outputs of all its calls, one after the other, and room for three numbers an answer.
+/// outputs of all its calls, one after the other, and room for four numbers an answer.
 pub struct Lent<'a> {
     pub script: &'a [u8],
     pub lists: &'a mut [u16],
@@ -27,7 +27,7 @@ struct Cursor {
     written: usize,
 }
 
-/// Stores the three numbers of an answer.
+/// Stores the numbers of an answer.
 fn tell(answers: &mut [usize], at: usize, told: Told) {
     for (j, number) in told.into_iter().enumerate() {
         store(answers, at + j, number);
@@ -48,7 +48,7 @@ fn make_calls(state: &mut State, lent: Lent) -> usize {
         let Some(turn) = make(state, lists, bytes, request) else {
             break;
         };
-        tell(lent.answers, 3 * at.made, turn.told);
+        tell(lent.answers, ANSWER_NUMBERS * at.made, turn.told);
         at.made += 1;
         at.listed += turn.entries;
         at.written += turn.output;
@@ -60,6 +60,7 @@ fn make_calls(state: &mut State, lent: Lent) -> usize {
 /// the number of calls.
 pub fn run(mut state: State, lent: Lent, numbers: &mut [usize; 3]) -> usize {
     let made = make_calls(&mut state, lent);
-    *numbers = [state.n, state.k, state.longest.0];
+    let Numbers { n, k, longest } = state.numbers;
+    *numbers = [n, k, longest.0];
     made
 }

@@ -1,9 +1,8 @@
 //! The search for the split named: from the last section back to the first, each
 //! section's start tried from place 0 upward.
 
-use crate::cells::{at_place, store, Centre, Place};
+use crate::cells::{at_place, store, ByCentre, ByPlace, Centre, Numbers, Place};
 use crate::iterator::reading::radius_at;
-use crate::state::State;
 
 /// Whether the row word has bit k.
 fn has_bit(row: u16, k: usize) -> bool {
@@ -11,30 +10,51 @@ fn has_bit(row: u16, k: usize) -> bool {
 }
 
 /// Whether prefix j splits into k sections and picks j + 1 to i are one more.
-fn starts_at(state: &State, k: usize, i: Place, j: Place) -> bool {
-    if has_bit(at_place(state.rows, j), k) {
+fn starts_at(
+    rows: &ByPlace,
+    radius: &ByCentre,
+    held: Numbers,
+    k: usize,
+    i: Place,
+    j: Place,
+) -> bool {
+    if has_bit(at_place(rows, j), k) {
         let centre = Centre(i.0 + j.0 + 1);
-        return (i.0 - j.0) / 2 <= radius_at(state, centre);
+        return (i.0 - j.0) / 2 <= radius_at(radius, held, centre);
     }
     false
 }
 
 /// The first start of a last section of prefix i whose rest splits into k: tried from
 /// place 0 upward.
-fn first_start(state: &State, k: usize, i: Place) -> Option<Place> {
-    (0..i.0).map(Place).find(|&j| starts_at(state, k, i, j))
+fn first_start(
+    rows: &ByPlace,
+    radius: &ByCentre,
+    held: Numbers,
+    k: usize,
+    i: Place,
+) -> Option<Place> {
+    let mut starts = (0..i.0).map(Place);
+    starts.find(|&j| starts_at(rows, radius, held, k, i, j))
 }
 
 /// Puts the ends of the split named of prefix i into k to the front of the list; where
 /// there is none, nothing is stored.
-pub fn split_from(state: &State, i: Place, k: usize, ends: &mut [u16]) -> bool {
+pub fn split_from(
+    rows: &ByPlace,
+    radius: &ByCentre,
+    held: Numbers,
+    i: Place,
+    k: usize,
+    ends: &mut [u16],
+) -> bool {
     if k == 0 {
         return i.0 == 0;
     }
-    let Some(j) = first_start(state, k - 1, i) else {
+    let Some(j) = first_start(rows, radius, held, k - 1, i) else {
         return false;
     };
-    if split_from(state, j, k - 1, ends) {
+    if split_from(rows, radius, held, j, k - 1, ends) {
         store(ends, k - 1, i.0 as u16);
         return true;
     }

@@ -1,27 +1,13 @@
 //! The state of the board, and what a call answers.
 
-use crate::cells::{ByCentre, ByPlace, Centre, Letters};
+use crate::cells::{Centres, Letters, Numbers, Places};
 
-/// The state: three numbers, and eight arrays that are lent.
+/// The state: three numbers, and the arrays, which are lent.
 pub struct State<'a> {
-    /// The picks so far.
-    pub n: usize,
-    /// K.
-    pub k: usize,
-    /// The stored centre of the longest ending.
-    pub longest: Centre,
+    pub numbers: Numbers,
     pub letters: &'a mut Letters,
-    /// The radii.
-    pub radius: &'a mut ByCentre,
-    /// The lend lists: the first centre of each by place, and the one after each centre.
-    pub heads: &'a mut ByPlace,
-    pub lends: &'a mut ByCentre,
-    /// The list of the endings' centres.
-    pub next: &'a mut ByCentre,
-    pub prev: &'a mut ByCentre,
-    /// The row words and the gathered words.
-    pub rows: &'a mut ByPlace,
-    pub gathered: &'a mut ByPlace,
+    pub centres: &'a mut Centres,
+    pub places: &'a mut Places,
 }
 
 /// A call's values, or the number of the refusal.

@@ -1,25 +1,37 @@
-//! The stored state: eight arrays and three numbers.
+//! The stored state: letters, lanes by centre and by place, and three numbers.
 
 use super::guarded::Guarded;
 use crate::MOST_PICKS;
 
-/// Entries by place: 0 to 2,048.
+/// Entries of a lane by place: 0 to 2,048.
 pub const PLACES: usize = MOST_PICKS + 1;
 
-/// Entries by centre: 1 to 2 × 2,048 + 1, and entry 0, which is not used.
+/// Entries of a lane by centre: 1 to 2 × 2,048 + 1, and entry 0, which is not used.
 pub const CENTRES: usize = 2 * MOST_PICKS + 2;
+
+/// The lanes by centre: the radii, the lend lists' next centres, and the list of the
+/// endings' centres, forward and back.
+pub const RADIUS: usize = 0;
+pub const LENDS: usize = 1;
+pub const NEXT: usize = 2;
+pub const PREV: usize = 3;
+const CENTRE_LANES: usize = 4;
+
+/// The lanes by place: the lend lists' first centres, the row words, the gathered
+/// words.
+pub const HEADS: usize = 0;
+pub const ROWS: usize = 1;
+pub const GATHERED: usize = 2;
+const PLACE_LANES: usize = 3;
 
 /// The state that the library's calls are given, and what it keeps of a draft.
 #[derive(Clone, PartialEq, Eq)]
 pub struct Board {
     pub(super) letters: Guarded<u8>,
-    pub(super) radius: Guarded<u16>,
-    pub(super) heads: Guarded<u16>,
-    pub(super) lends: Guarded<u16>,
-    pub(super) next: Guarded<u16>,
-    pub(super) prev: Guarded<u16>,
-    pub(super) rows: Guarded<u16>,
-    pub(super) gathered: Guarded<u16>,
+    /// The lanes by centre, one after the other.
+    pub(super) centres: Guarded<u16>,
+    /// The lanes by place, one after the other.
+    pub(super) places: Guarded<u16>,
     /// n, K and the centre of the longest ending.
     pub(super) numbers: Guarded<usize>,
 }
@@ -33,22 +45,17 @@ impl Board {
         board
     }
 
-    /// Arrays with the given entries; n, K and the stored centre are 0.
+    /// Letters and lanes with the given entries; n, K and the stored centre are 0.
     pub fn filled(mut entry: impl FnMut() -> u16) -> Board {
         let mut board = Board {
             letters: Guarded::new(MOST_PICKS),
-            radius: Guarded::new(CENTRES),
-            heads: Guarded::new(PLACES),
-            lends: Guarded::new(CENTRES),
-            next: Guarded::new(CENTRES),
-            prev: Guarded::new(CENTRES),
-            rows: Guarded::new(PLACES),
-            gathered: Guarded::new(PLACES),
+            centres: Guarded::new(CENTRE_LANES * CENTRES),
+            places: Guarded::new(PLACE_LANES * PLACES),
             numbers: Guarded::new(3),
         };
         board.letters_mut().fill_with(|| entry() as u8);
-        for array in board.arrays_mut() {
-            array.fill_with(&mut entry);
+        for lane in board.lanes_mut() {
+            lane.fill_with(&mut entry);
         }
         board
     }
@@ -58,18 +65,25 @@ impl Board {
         self.letters.inner_mut()
     }
 
-    /// Every array but the letters, to write any entry of it: radius, heads, lends,
-    /// next, prev, rows, gathered.
-    pub fn arrays_mut(&mut self) -> [&mut [u16]; 7] {
-        [
-            self.radius.inner_mut(),
-            self.heads.inner_mut(),
-            self.lends.inner_mut(),
-            self.next.inner_mut(),
-            self.prev.inner_mut(),
-            self.rows.inner_mut(),
-            self.gathered.inner_mut(),
-        ]
+    /// Every lane, to write any entry of it: those by centre, then those by place.
+    pub fn lanes_mut(&mut self) -> impl Iterator<Item = &mut [u16]> {
+        let by_centre = self.centres.inner_mut().chunks_exact_mut(CENTRES);
+        by_centre.chain(self.places.inner_mut().chunks_exact_mut(PLACES))
+    }
+
+    /// A lane by centre, to write any entry of it.
+    pub fn centre_lane_mut(&mut self, lane: usize) -> &mut [u16] {
+        &mut self.centres.inner_mut()[lane * CENTRES..][..CENTRES]
+    }
+
+    /// A lane by centre.
+    pub fn centre_lane(&self, lane: usize) -> &[u16] {
+        &self.centres.inner()[lane * CENTRES..][..CENTRES]
+    }
+
+    /// A lane by place.
+    pub fn place_lane(&self, lane: usize) -> &[u16] {
+        &self.places.inner()[lane * PLACES..][..PLACES]
     }
 
     /// Stores n, K and the centre of the longest ending.
@@ -100,21 +114,19 @@ impl Board {
 
     /// The row words of places 0 to n.
     pub fn rows(&self) -> &[u16] {
-        &self.rows.inner()[..=self.n()]
+        &self.place_lane(ROWS)[..=self.n()]
     }
 
     /// The gathered words of places 0 to n.
     pub fn gathered(&self) -> &[u16] {
-        &self.gathered.inner()[..=self.n()]
+        &self.place_lane(GATHERED)[..=self.n()]
     }
 
-    /// Whether nothing is written outside any array.
+    /// Whether nothing is written outside the letters, the lanes and the numbers.
     pub(super) fn guards_hold(&self) -> bool {
-        let by_centre = [&self.radius, &self.lends, &self.next, &self.prev];
-        let by_place = [&self.heads, &self.rows, &self.gathered];
         self.letters.guards_hold()
+            && self.centres.guards_hold()
+            && self.places.guards_hold()
             && self.numbers.guards_hold()
-            && by_centre.iter().all(|array| array.guards_hold())
-            && by_place.iter().all(|array| array.guards_hold())
     }
 }

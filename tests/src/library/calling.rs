@@ -3,7 +3,7 @@
 use super::board::Board;
 use super::running::Lent;
 use crate::calls::{Answer, Taken};
-use crate::scripted::{Call, Reply};
+use crate::scripted::{Call, Reply, VALUES};
 use crate::VISIT_ROOM;
 
 /// A number of a script's call, which has 16 bits.
@@ -18,8 +18,8 @@ fn byte(number: usize) -> u8 {
 
 /// The value of a reply that has one.
 fn one_value(call: Call, reply: Reply) -> Answer<usize> {
-    let [value, none] = reply?;
-    assert_eq!(none, 0, "second value of {call:?}");
+    let [value, none @ ..] = reply?;
+    assert_eq!(none, [0, 0], "more values of {call:?}");
     Ok(value)
 }
 
@@ -42,14 +42,19 @@ impl Board {
     /// Start.
     pub fn start(&mut self, most_sections: u8) -> Answer<()> {
         let values = self.make(Call::Start { most_sections }, &mut [], &mut [])?;
-        assert_eq!(values, [0, 0], "values of a start with K {most_sections}");
+        assert_eq!(
+            values, [0; VALUES],
+            "values of a start with K {most_sections}"
+        );
         Ok(())
     }
 
     /// Feed.
     pub fn feed(&mut self, pick: u8, visit_list: &mut [u16]) -> Answer<Taken> {
         let entries = short(visit_list.len());
-        let [mask, visits] = self.make(Call::Feed { pick, entries }, visit_list, &mut [])?;
+        let call = Call::Feed { pick, entries };
+        let [mask, visits, none] = self.make(call, visit_list, &mut [])?;
+        assert_eq!(none, 0, "third value of {call:?}");
         let mask = u8::try_from(mask).expect("a mask of 8 bits");
         Ok(Taken { mask, visits })
     }

@@ -2,20 +2,17 @@
 
 extern "C" {
     /// Makes the calls of a script one after the other on the state, which is the
-    /// eight arrays and the three numbers n, K and the centre of the longest ending.
-    /// Gives the number of calls made.
+    /// letters, four lanes by centre, three lanes by place and the three numbers n, K
+    /// and the centre of the longest ending. Gives the number of calls made.
     pub fn drive(
         letters: *mut u8,
-        radius: *mut u16,
-        heads: *mut u16,
-        lends: *mut u16,
-        next: *mut u16,
-        prev: *mut u16,
-        rows: *mut u16,
-        gathered: *mut u16,
+        centres: *mut u16,
+        places: *mut u16,
         numbers: *mut usize,
         script: *const u8,
         script_len: usize,
+        input: *const u8,
+        input_len: usize,
         lists: *mut u16,
         lists_len: usize,
         bytes: *mut u8,

@@ -4,19 +4,24 @@ use super::board::Board;
 use super::functions::drive;
 use super::guarded::Guarded;
 use crate::calls::Refusal;
-use crate::scripted::{script, Call, Reply};
+use crate::scripted::{script, Call, Reply, VALUES};
 
-/// Numbers that the library writes for each call: 0 and two values, or 1, the
-/// refusal number and 0.
-pub const ANSWER_NUMBERS: usize = 3;
+/// Numbers that the library writes for each call: 0 and the values, or 1, the refusal
+/// number and zeros.
+pub const ANSWER_NUMBERS: usize = 1 + VALUES;
 
 /// What each number of the answers holds before the calls.
 pub const UNSET: usize = 0x5A5A_5A5A;
 
-/// What a script is lent beside the state: the entries of the lists and the bytes of
-/// the outputs of all its calls, one after the other, and room for the answers.
+/// The input of a script whose calls read none.
+const INPUT: [u8; 12] = *b"7,2,3,AB,4,C";
+
+/// What a script is lent beside the state: bytes to read, the entries of the lists and
+/// the bytes of the outputs of all its calls, one after the other, and room for the
+/// answers.
 #[derive(Clone, Debug, PartialEq, Eq)]
 pub struct Lent {
+    pub input: Vec<u8>,
     pub lists: Vec<u16>,
     pub bytes: Vec<u8>,
     pub answers: Vec<usize>,
@@ -28,6 +33,7 @@ impl Lent {
         let entries = calls.iter().map(|call| call.entries()).sum();
         let bytes = calls.iter().map(|call| call.output_bytes()).sum();
         Lent {
+            input: INPUT.to_vec(),
             lists: vec![entry; entries],
             bytes: vec![byte; bytes],
             answers: vec![UNSET; ANSWER_NUMBERS * calls.len()],
@@ -41,11 +47,11 @@ impl Lent {
     }
 }
 
-/// The reply that three numbers of the answers give.
+/// The reply that the numbers of an answer give.
 fn reply(answer: &[usize]) -> Reply {
     match *answer {
-        [0, first, second] => Ok([first, second]),
-        [1, number @ 1..=10, 0] => Err(number as Refusal),
+        [0, first, second, third] => Ok([first, second, third]),
+        [1, number @ 1..=10, 0, 0] => Err(number as Refusal),
         _ => panic!("{answer:?} is no answer"),
     }
 }
@@ -55,11 +61,14 @@ impl Board {
     /// number of calls made.
     pub fn run_script(&mut self, script: &[u8], lent: &mut Lent) -> usize {
         let mut lent_script = Guarded::of(script);
+        let mut input = Guarded::of(&lent.input);
         let mut lists = Guarded::of(&lent.lists);
         let mut bytes = Guarded::of(&lent.bytes);
         let mut answers = Guarded::of(&lent.answers);
-        let made = self.drive(&mut lent_script, &mut lists, &mut bytes, &mut answers);
+        let read = [&mut lent_script, &mut input];
+        let made = self.drive(read, &mut lists, &mut bytes, &mut answers);
         lent_script.assert_kept(script, "script bytes");
+        input.assert_kept(&lent.input, "input bytes");
         assert!(self.guards_hold(), "outside the state, script {script:?}");
         assert!(lists.guards_hold(), "outside the lists, script {script:?}");
         assert!(bytes.guards_hold(), "outside the bytes, script {script:?}");
@@ -70,10 +79,11 @@ impl Board {
         made
     }
 
-    /// The library's function on the state and what is lent.
+    /// The library's function on the state and what is lent: script and input, which
+    /// are only read, and what is written.
     fn drive(
         &mut self,
-        script: &mut Guarded<u8>,
+        [script, input]: [&mut Guarded<u8>; 2],
         lists: &mut Guarded<u16>,
         bytes: &mut Guarded<u8>,
         answers: &mut Guarded<usize>,
@@ -83,16 +93,13 @@ impl Board {
         unsafe {
             drive(
                 self.letters.pointer(),
-                self.radius.pointer(),
-                self.heads.pointer(),
-                self.lends.pointer(),
-                self.next.pointer(),
-                self.prev.pointer(),
-                self.rows.pointer(),
-                self.gathered.pointer(),
+                self.centres.pointer(),
+                self.places.pointer(),
                 self.numbers.pointer(),
                 script.pointer(),
                 script.inner().len(),
+                input.pointer(),
+                input.inner().len(),
                 lists.pointer(),
                 lists.inner().len(),
                 bytes.pointer(),
@@ -120,6 +127,7 @@ impl Board {
         assert_eq!(list.len(), call.entries(), "the list of {call:?}");
         assert_eq!(output.len(), call.output_bytes(), "the output of {call:?}");
         let mut lent = Lent {
+            input: INPUT.to_vec(),
             lists: list.to_vec(),
             bytes: output.to_vec(),
             answers: vec![UNSET; ANSWER_NUMBERS],

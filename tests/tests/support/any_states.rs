@@ -39,9 +39,9 @@ pub fn spoiled_state(generator: &mut Generator) -> Board {
     let length = generator.below(MOST_PICKS + 1);
     let draft = broken_periods(generator, 2, length);
     let mut board = Board::fed(&draft, 1 + generator.below(MOST_SECTIONS));
-    for array in board.arrays_mut() {
+    for lane in board.lanes_mut() {
         for _ in 0..generator.below(20) {
-            array[generator.below(array.len())] = any_number(generator) as u16;
+            lane[generator.below(lane.len())] = any_number(generator) as u16;
         }
     }
     let letters = board.letters_mut();

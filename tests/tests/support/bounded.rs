@@ -45,16 +45,16 @@ fn is_possible(reply: Reply, number: Option<Refusal>, call: Call) -> bool {
         (Err(given), Some(number)) => given == number,
         (Ok(_), Some(_)) => false,
         (Err(given), None) => found(call).contains(&given),
-        (Ok([_, visits]), None) => visits <= VISIT_ROOM,
+        (Ok([_, visits, _]), None) => visits <= VISIT_ROOM,
     }
 }
 
 /// The entries and the bytes that an accepted call may fill; a refused one fills none.
 fn named(call: Call, reply: Reply) -> [usize; 2] {
     match (call, reply) {
-        (Call::Feed { .. }, Ok([_, visits])) => [visits, 0],
+        (Call::Feed { .. }, Ok([_, visits, _])) => [visits, 0],
         (Call::Split { k, .. }, Ok(_)) => [usize::from(k), 0],
-        (Call::Record { .. }, Ok([bytes, _])) => [0, bytes],
+        (Call::Record { .. }, Ok([bytes, ..])) => [0, bytes],
         _ => [0, 0],
     }
 }

@@ -1,10 +1,14 @@
 //! The library's board beside the comparison program's tables.
 
+#[path = "words.rs"]
+mod words;
+
 use comparison::beside::ENTRY;
 use comparison::calls::Taken;
 use comparison::fast::Fast;
 use comparison::library::Board;
-use comparison::scripted::{Call, Reply};
+use comparison::scripted::{given, Call};
+pub use words::compare_words;
 
 /// Entries of the visit list, more than the visits there can be.
 const ENTRIES: usize = 24;
@@ -48,22 +52,12 @@ pub fn compare_all(board: &mut Board, fast: &Fast, draft: &[u8], name: &str) {
     assert!(*board == before, "{name}, a byte of the state changed");
 }
 
-/// Every stored row word and gathered word.
-pub fn compare_words(board: &Board, fast: &Fast, name: &str) {
-    let n = board.n();
-    let gathered = fast.gathered(n);
-    for (i, &word) in gathered.iter().enumerate() {
-        assert_eq!(board.rows()[i], fast.row(i), "{name}, row {i} after {n}");
-        assert_eq!(board.gathered()[i], word, "{name}, word {i} after {n}");
-    }
-}
-
 /// The mask of every prefix.
 fn compare_masks(board: &mut Board, fast: &Fast, name: &str) {
     let prefixes = 0..=board.n() as u16;
     let calls: Vec<Call> = prefixes.map(|prefix| Call::Mask { prefix }).collect();
     for (i, reply) in board.ask(&calls).into_iter().enumerate() {
-        let expected = Ok([usize::from(fast.mask(i)), 0]);
+        let expected = given([fast.mask(i).into()]);
         assert_eq!(reply, expected, "{name}, mask of prefix {i}");
     }
 }
@@ -77,10 +71,10 @@ fn compare_centres(board: &mut Board, fast: &Fast, name: &str) {
         .collect();
     for (at, pair) in board.ask(&calls).chunks(2).enumerate() {
         let centre = at + 1;
-        let radius: Reply = Ok([fast.radius(n, centre), 0]);
+        let radius = given([fast.radius(n, centre)]);
         assert_eq!(pair[0], radius, "{name}, radius at {centre}");
-        let next = fast.next_centre(n, centre);
-        let next = next.map(|centre| [centre, 0]).ok_or(10);
+        let next = fast.next_centre(n, centre).ok_or(10);
+        let next = next.and_then(|centre| given([centre]));
         assert_eq!(pair[1], next, "{name}, next at {centre}");
     }
 }

@@ -11,6 +11,9 @@ slice-write-answers-2 c = simp length-set (omega (arith, c .pre))
 slice-write-answers-3 : tie.Need-slice-write-answers-3
 slice-write-answers-3 c = simp length-set (omega (arith, c .pre))
 
+slice-write-answers-4 : tie.Need-slice-write-answers-4
+slice-write-answers-4 c = simp length-set (omega (arith, c .pre))
+
 returns : tie.Need-returns
 returns c = simp towards-suc
 
@@ -18,4 +21,4 @@ pub tell-spec : {M : Type 1} → statement M
 tell-spec =
     tie.close
     (tie.spec (λ c. search needs) (λ c. search needs) (λ c. search needs) (λ c. search needs) slice-write-answers-2 (λ c. search needs)
-    (λ c. search needs) slice-write-answers-3 (λ c. search needs) returns)
+    (λ c. search needs) slice-write-answers-3 (λ c. search needs) (λ c. search needs) slice-write-answers-4 (λ c. search needs) returns)

@@ -1,5 +1,5 @@
 use native.Mathlib.Omega.{arith}
-use Rattle.record.specs.Turns.{size-as}
+use Rattle.record.specs.RecordCode.{size-as}
 use borrow.Author.Needs.{needs}
 use Rattle.record.proofs.record_size.Statement.{statement}
 use Rattle.record.proofs.record_size.Tie as tie

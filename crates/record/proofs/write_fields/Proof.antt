@@ -1,5 +1,5 @@
 use Rattle.words.specs.Definitions.{word}
-use Rattle.record.specs.Turns.{record-stored}
+use Rattle.record.specs.RecordCode.{record-stored}
 use borrow.Author.Needs.{needs}
 use Rattle.record.proofs.write_fields.Statement.{statement}
 use Rattle.record.proofs.write_fields.Tie as tie

@@ -1,5 +1,5 @@
 use native.Mathlib.Omega.{arith}
-use Rattle.record.specs.Turns.{head-as}
+use Rattle.record.specs.RecordCode.{head-as}
 use borrow.Author.Needs.{needs}
 use Rattle.record.proofs.write_head.Statement.{statement}
 use Rattle.record.proofs.write_head.Tie as tie

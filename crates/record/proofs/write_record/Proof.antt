@@ -1,7 +1,7 @@
 use native.Mathlib.Omega.{arith}
 use Rattle.words.specs.Definitions.{word}
 use Rattle.promises.specs.Record.{recordOf}
-use Rattle.record.specs.Turns.{refused-as, written-as}
+use Rattle.record.specs.RecordCode.{refused-as, written-as}
 use borrow.Author.Needs.{needs}
 use Rattle.record.proofs.write_record.Statement.{statement}
 use Rattle.record.proofs.write_record.Tie as tie

@@ -1,5 +1,5 @@
 use borrow.Author.Needs.{needs}
-use Rattle.promises.specs.Passing.{centre-order}
+use Rattle.promises.specs.RefusalLaws.{centre-order}
 use Rattle.refusals.proofs.centre_refusal.Statement.{statement}
 use Rattle.refusals.proofs.centre_refusal.Tie as tie
 
@@ -8,7 +8,7 @@ returns c =
     let a = c .before .before .before .before .args in
     let last = c .before .before .last-centre in
     cc (
-      centre-order (a .n) (a .k) (last .result) (a .c .0) (last .ensures),
+      centre-order (a .held .n) (a .held .k) (last .result) (a .c .0) (last .ensures),
       c .before .before .before .line7 .ensures,
       c .before .line4 .ensures,
       c .first .ensures,

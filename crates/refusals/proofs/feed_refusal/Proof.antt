@@ -1,5 +1,5 @@
 use borrow.Author.Needs.{needs}
-use Rattle.promises.specs.Passing.{feed-order}
+use Rattle.promises.specs.RefusalLaws.{feed-order}
 use Rattle.refusals.proofs.feed_refusal.Statement.{statement}
 use Rattle.refusals.proofs.feed_refusal.Tie as tie
 
@@ -7,7 +7,7 @@ returns : tie.Need-returns
 returns c =
     let a = c .before .before .before .before .before .before .before .args in
     cc (
-      feed-order (a .n) (a .k) (a .pick) (a .entries),
+      feed-order (a .held .n) (a .held .k) (a .pick) (a .entries),
       c .before .before .before .before .before .before .line7 .ensures,
       c .before .before .before .before .before .line2 .ensures,
       c .before .before .before .before .line3 .ensures,

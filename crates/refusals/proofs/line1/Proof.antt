@@ -1,5 +1,5 @@
 use native.Mathlib.Omega.{arith}
-use Rattle.promises.specs.Passing.{below, above, inside}
+use Rattle.promises.specs.RefusalLaws.{below, above, inside}
 use Rattle.refusals.proofs.line1.Statement.{statement}
 use Rattle.refusals.proofs.line1.Tie as tie
 

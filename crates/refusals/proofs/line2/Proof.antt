@@ -1,6 +1,6 @@
 use native.Mathlib.Omega.{arith}
 use Rattle.words.specs.Definitions.{firstLetter, lastLetter}
-use Rattle.promises.specs.Passing.{below, above, inside}
+use Rattle.promises.specs.RefusalLaws.{below, above, inside}
 use Rattle.refusals.proofs.line2.Statement.{statement}
 use Rattle.refusals.proofs.line2.Tie as tie
 

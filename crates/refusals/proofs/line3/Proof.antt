@@ -1,5 +1,5 @@
 use native.Mathlib.Omega.{arith}
-use Rattle.promises.specs.Passing.{few, enough}
+use Rattle.promises.specs.RefusalLaws.{few, enough}
 use Rattle.refusals.proofs.line3.Statement.{statement}
 use Rattle.refusals.proofs.line3.Tie as tie
 

@@ -1,5 +1,5 @@
 use native.Mathlib.Omega.{arith}
-use Rattle.promises.specs.Passing.{full, roomy}
+use Rattle.promises.specs.RefusalLaws.{full, roomy}
 use Rattle.refusals.proofs.line8.Statement.{statement}
 use Rattle.refusals.proofs.line8.Tie as tie
 

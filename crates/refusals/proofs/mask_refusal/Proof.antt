@@ -1,5 +1,5 @@
 use borrow.Author.Needs.{needs}
-use Rattle.promises.specs.Passing.{mask-order}
+use Rattle.promises.specs.RefusalLaws.{mask-order}
 use Rattle.refusals.proofs.mask_refusal.Statement.{statement}
 use Rattle.refusals.proofs.mask_refusal.Tie as tie
 
@@ -7,7 +7,7 @@ returns : tie.Need-returns
 returns c =
     let a = c .before .before .before .args in
     cc (
-      mask-order (a .n) (a .k) (a .i .0),
+      mask-order (a .held .n) (a .held .k) (a .i .0),
       c .before .before .line7 .ensures,
       c .before .line4 .ensures,
       c .first .ensures,

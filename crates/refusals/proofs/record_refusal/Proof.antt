@@ -1,5 +1,5 @@
 use borrow.Author.Needs.{needs}
-use Rattle.promises.specs.Passing.{record-order}
+use Rattle.promises.specs.RefusalLaws.{record-order}
 use Rattle.refusals.proofs.record_refusal.Statement.{statement}
 use Rattle.refusals.proofs.record_refusal.Tie as tie
 
@@ -7,7 +7,7 @@ returns : tie.Need-returns
 returns c =
     let a = c .before .before .before .before .before .args in
     cc (
-      record-order (a .n) (a .most) (a .i .0) (a .k),
+      record-order (a .held .n) (a .held .k) (a .i .0) (a .k),
       c .before .before .before .before .line7 .ensures,
       c .before .before .before .line1 .ensures,
       c .before .before .line4 .ensures,

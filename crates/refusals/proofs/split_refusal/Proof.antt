@@ -1,5 +1,5 @@
 use borrow.Author.Needs.{needs}
-use Rattle.promises.specs.Passing.{split-order}
+use Rattle.promises.specs.RefusalLaws.{split-order}
 use Rattle.refusals.proofs.split_refusal.Statement.{statement}
 use Rattle.refusals.proofs.split_refusal.Tie as tie
 
@@ -7,7 +7,7 @@ returns : tie.Need-returns
 returns c =
     let a = c .before .before .before .before .before .before .before .args in
     cc (
-      split-order (a .n) (a .most) (a .i .0) (a .k) (a .entries),
+      split-order (a .held .n) (a .held .k) (a .i .0) (a .k) (a .entries),
       c .before .before .before .before .before .before .line7 .ensures,
       c .before .before .before .before .before .line1 .ensures,
       c .before .before .before .before .line3 .ensures,

@@ -5,7 +5,7 @@ use borrow.Author.Needs.{needs}
 use borrow.Fn.Kinds.{In}
 use borrow.Fn.PlainCycle.{Measures, is, falls, and}
 use Rattle.models.specs.Iterator.{longestOf}
-use Rattle.models.specs.SplitTurns.{start-before, stores-none, stores-missing, stores-less, stores-more}
+use Rattle.models.specs.SplitCode.{start-before, stores-none, stores-missing, stores-less, stores-more}
 use Rattle.splitting.proofs.split_from.Reads as split-from
 use Rattle.splitting.proofs.split_from.Kinds as split-from-kinds
 use Rattle.splitting.proofs.+split_from.Lts-split_from as lts
@@ -17,7 +17,7 @@ use Rattle.splitting.proofs.+split_from.Tie.{close}
 
 -- the number of sections left
 abbrev μ : Measures 3 split-from-kinds.ps ℕ
-μ κs a = a .1 .1 .1 .1 .1 .0
+μ κs a = a .1 .1 .1 .1 .0
 
 abbrev now-at : ℕ → In 3 split-from-kinds.ps
 now-at t = and 3 split-from-kinds.ps (is 3 split-from-kinds.ps μ t) split-from.Pre
@@ -40,7 +40,7 @@ claims t = (
 returns : (t : ℕ) → lts.Need-returns (claims t) (now-at t) split-from.Post
 returns t c =
     let a = c .before .before .before .args in
-    stores-none (a .rows .now) (a .radius .now) (a .n) (longestOf (a .n) (a .longest .0)) (a .i .0) (a .ends .now) (a .k) (c .before .if1 .taken)
+    stores-none (a .rows .now) (a .radius .now) (a .held .n) (longestOf (a .held .n) (a .held .longest .0)) (a .i .0) (a .ends .now) (a .k) (c .before .if1 .taken)
 
 first-start-requires : (t : ℕ) → lts.Need-first-start-requires (claims t) (now-at t) split-from.Post
 first-start-requires t c κs = let p = c .before .before .pre .1 in (p .0, omega (arith, p .1), p .2)
@@ -54,7 +54,7 @@ split-from-requires t c κs =
     let a = b .args in
     let p = b .pre in
     let e = rw (f .found .given .1) at (o .first-start .ensures) in
-    let l = start-before (a .rows .now) (a .radius .now) (a .n) (longestOf (a .n) (a .longest .0)) (a .k - 1) (a .i .0) _ e in
+    let l = start-before (a .rows .now) (a .radius .now) (a .held .n) (longestOf (a .held .n) (a .held .longest .0)) (a .k - 1) (a .i .0) _ e in
     (omega (arith, p .0, z .if1 .left), (p .1 .0, omega (arith, p .1 .1), omega (arith, l, p .1 .2)))
 
 narrow-requires : (t : ℕ) → lts.Need-narrow-requires (claims t) (now-at t) split-from.Post
@@ -64,7 +64,7 @@ same-length : (t : ℕ) → lts.Need-same-length (claims t) (now-at t) split-fro
 same-length t c =
     let s = c .before .before in
     let r = s .before .before .before .before .before .before in
-    s .store .kept .0 ∙ r .split-from .kept .1 .1 .1 .1 .1 .1 .0
+    s .store .kept .0 ∙ r .split-from .kept .1 .1 .1 .1 .1 .0
 
 returns-2 : (t : ℕ) → lts.Need-returns-2 (claims t) (now-at t) split-from.Post
 returns-2 t c =
@@ -78,7 +78,7 @@ returns-2 t c =
     let b = z .before .before in
     let a = b .args in
     let e = rw (f .found .given .1) at (o .first-start .ensures) in
-    stores-more (a .rows .now) (a .radius .now) (a .n) (longestOf (a .n) (a .longest .0)) (a .i .0) (a .ends .now) (a .k) (omega (arith, z .if1 .left)) _ e (r .split-from .result) (n .narrow .result) _ _
+    stores-more (a .rows .now) (a .radius .now) (a .held .n) (longestOf (a .held .n) (a .held .longest .0)) (a .i .0) (a .ends .now) (a .k) (omega (arith, z .if1 .left)) _ e (r .split-from .result) (n .narrow .result) _ _
     (r .split-from .ensures) (y .if2 .taken) (n .narrow .ensures) (s .store .ensures)
 
 returns-3 : (t : ℕ) → lts.Need-returns-3 (claims t) (now-at t) split-from.Post
@@ -88,10 +88,10 @@ returns-3 t c =
     let b = z .before .before in
     let a = b .args in
     let e = rw (c .enum-told .given .1) at (o .first-start .ensures) in
-    stores-missing (a .rows .now) (a .radius .now) (a .n) (longestOf (a .n) (a .longest .0)) (a .i .0) (a .ends .now) (a .k) (omega (arith, z .if1 .left)) e
+    stores-missing (a .rows .now) (a .radius .now) (a .held .n) (longestOf (a .held .n) (a .held .longest .0)) (a .i .0) (a .ends .now) (a .k) (omega (arith, z .if1 .left)) e
 
 same-length-2 : (t : ℕ) → lts.Need-same-length-2 (claims t) (now-at t) split-from.Post
-same-length-2 t c = c .before .before .before .split-from .kept .1 .1 .1 .1 .1 .1 .0
+same-length-2 t c = c .before .before .before .split-from .kept .1 .1 .1 .1 .1 .0
 
 returns-4 : (t : ℕ) → lts.Need-returns-4 (claims t) (now-at t) split-from.Post
 returns-4 t c =
@@ -102,7 +102,7 @@ returns-4 t c =
     let b = z .before .before in
     let a = b .args in
     let e = rw (f .found .given .1) at (o .first-start .ensures) in
-    stores-less (a .rows .now) (a .radius .now) (a .n) (longestOf (a .n) (a .longest .0)) (a .i .0) (a .ends .now) (a .k) (omega (arith, z .if1 .left)) _ e (r .split-from .result) _ (r .split-from .ensures) (c .if2 .left)
+    stores-less (a .rows .now) (a .radius .now) (a .held .n) (longestOf (a .held .n) (a .held .longest .0)) (a .i .0) (a .ends .now) (a .k) (omega (arith, z .if1 .left)) _ e (r .split-from .result) _ (r .split-from .ensures) (c .if2 .left)
 
 pub +split-from-spec : {M : Type 1} → statement M
 +split-from-spec = close μ λ t. lts.spec (claims t) (now-at t) split-from.Post

@@ -2,8 +2,7 @@
 //! the visited places.
 
 use super::visits::visit_all;
-use crate::cells::{store_at_place, Centre, Place};
-use crate::state::State;
+use crate::cells::{store_at_place, ByCentre, Centre, Numbers, Place, Places, GATHERED, ROWS};
 
 /// The row word of the new place, and how many places were visited for it.
 pub struct NewRow {
@@ -26,13 +25,14 @@ fn raised(word: u16, k: usize) -> u16 {
     (usize::from(word) * 2 % row_end(k)) as u16
 }
 
-/// Prefix n, whose longest ending has the centre `longest`.
-pub fn step(state: &mut State, visits: &mut [u16], longest: Centre) -> NewRow {
-    let n = Place(state.n);
-    let seen = visit_all(state, visits, longest_length(state.n, longest));
-    let row = raised(seen.union, state.k);
-    store_at_place(state.rows, n, row);
-    store_at_place(state.gathered, n, row);
+/// The prefix that `new` tells: its length, K and the centre of its longest ending.
+pub fn step(next: &ByCentre, places: &mut Places, visits: &mut [u16], new: Numbers) -> NewRow {
+    let n = Place(new.n);
+    let longest = longest_length(new.n, new.longest);
+    let seen = visit_all(next, places, visits, new.n, longest);
+    let row = raised(seen.union, new.k);
+    store_at_place(places, ROWS, n, row);
+    store_at_place(places, GATHERED, n, row);
     NewRow {
         row,
         count: seen.count,

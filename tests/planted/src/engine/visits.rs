@@ -1,7 +1,7 @@
 //! Section 4, append, lines 3 to 9: the walk over the leading endings.
 
-use crate::cells::{at_centre, at_place, store, store_at_place, Centre, Place};
-use crate::state::State;
+use crate::cells::{at_centre, at_place, store, store_at_place, ByCentre, Centre, Place, Places};
+use crate::cells::{GATHERED, ROWS};
 
 /// The centre of the ending of len picks, of n.
 fn centre_of(n: usize, len: usize) -> Centre {
@@ -10,15 +10,10 @@ fn centre_of(n: usize, len: usize) -> Centre {
 
 /// The least period of the ending of length len: the next centre less its own, brought
 /// into 1 to len.
-fn period_of(state: &State, len: usize) -> usize {
-    let c = centre_of(state.n, len);
-    let after = at_centre(state.next, c);
+fn period_of(next: &ByCentre, n: usize, len: usize) -> usize {
+    let c = centre_of(n, len);
+    let after = at_centre(next, c);
     after.saturating_sub(c.0).min(len).max(1)
-}
-
-/// The length of the next shorter leading ending.
-fn next_leading(len: usize, p: usize) -> usize {
-    (p + len % p).min(len.saturating_sub(p))
 }
 
 /// The gathered word of the place before a leading ending, and the length of the next.
@@ -29,19 +24,19 @@ struct Mended {
 
 /// A visit: the gathered word is the own row word where three periods do not fit, else
 /// one row word is joined to it.
-fn visit(state: &mut State, len: usize) -> Mended {
-    let n = state.n;
-    let p = period_of(state, len);
-    let d = next_leading(len, p);
+fn visit(next: &ByCentre, places: &mut Places, n: usize, len: usize) -> Mended {
+    let p = period_of(next, n, len);
     let i = Place(n.saturating_sub(len));
     if len < 3 * p {
-        let own = at_place(state.rows, i);
-        store_at_place(state.gathered, i, own);
+        let own = at_place(&places[ROWS], i);
+        store_at_place(places, GATHERED, i, own);
+        let d = len.saturating_sub(p);
         return Mended { word: own, next: d };
     }
+    let d = p + len % p;
     let j = Place(n.saturating_sub(d).saturating_sub(p));
-    let word = at_place(state.gathered, i) | at_place(state.rows, j);
-    store_at_place(state.gathered, i, word);
+    let word = at_place(&places[GATHERED], i) | at_place(&places[ROWS], j);
+    store_at_place(places, GATHERED, i, word);
     Mended { word, next: d }
 }
 
@@ -52,12 +47,18 @@ pub struct Visited {
 }
 
 /// The visits, from the longest ending on; their lengths go to the front of the list.
-pub fn visit_all(state: &mut State, visits: &mut [u16], longest: usize) -> Visited {
+pub fn visit_all(
+    next: &ByCentre,
+    places: &mut Places,
+    visits: &mut [u16],
+    n: usize,
+    longest: usize,
+) -> Visited {
     let mut union = 0;
     let mut count = 0;
     let mut len = longest;
     while 0 < len {
-        let mended = visit(state, len);
+        let mended = visit(next, places, n, len);
         union |= mended.word;
         store(visits, count, len as u16);
         count += 1;

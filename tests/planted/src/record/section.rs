@@ -1,12 +1,10 @@
 //! The sections of the record, one after another; each begins where the one before it
 //! ends. A section is a comma, its length, a comma, and its first half of letters.
 
-use super::bytes::{write_byte, write_letters};
-use super::decimal::{digit_count, write_decimal};
 use crate::cells::Letters;
-
-/// The byte between two fields.
-pub const COMMA: u8 = b',';
+use crate::text::bytes::{write_byte, write_letters};
+use crate::text::decimal::{digit_count, write_decimal};
+use crate::text::COMMA;
 
 /// How many letters of a section of this length are written: half of them, the middle
 /// pick included.

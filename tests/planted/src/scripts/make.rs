@@ -2,9 +2,15 @@
 
 use super::request::Request;
 use super::told::{nothing_told, taken_told, value_told, Told};
-use crate::asking::{folding, reading, split};
-use crate::cells::{Centre, Place};
-use crate::feeding::{feed, start};
+use crate::calls::feed::feed;
+use crate::calls::fold::fold;
+use crate::calls::longest::longest;
+use crate::calls::mask::mask;
+use crate::calls::next::next;
+use crate::calls::radius::radius;
+use crate::calls::split::split;
+use crate::calls::start::start;
+use crate::cells::{Centre, Place, NEXT, RADIUS, ROWS};
 use crate::state::State;
 
 /// What came of a request: its answer, and how much it was lent.
@@ -35,43 +41,66 @@ fn listed(told: Told, entries: usize) -> Turn {
 /// Feeds pick b, with a visit list of the first m entries.
 fn feed_on(state: &mut State, lists: &mut [u16], q: Request) -> Option<Turn> {
     let visits = lists.get_mut(..q.m)?;
-    let told = taken_told(feed::feed(state, q.b as u8, visits));
+    let told = taken_told(feed(state, q.b as u8, visits));
     Some(listed(told, q.m))
 }
 
 /// Splits prefix x into b sections, with an ends list of the first m entries.
 fn split_on(state: &State, lists: &mut [u16], q: Request) -> Option<Turn> {
     let ends = lists.get_mut(..q.m)?;
-    let told = value_told(split::split(state, Place(q.x), q.b, ends));
-    Some(listed(told, q.m))
+    let (rows, radius) = (&state.places[ROWS], &state.centres[RADIUS]);
+    let turns = split(rows, radius, state.numbers, Place(q.x), q.b, ends);
+    Some(listed(value_told(turns), q.m))
 }
 
 /// Writes the folded record of prefix x in b sections into the first m bytes.
 fn fold_on(state: &State, bytes: &mut [u8], q: Request) -> Option<Turn> {
     let output = bytes.get_mut(..q.m)?;
-    let told = value_told(folding::fold(state, Place(q.x), q.b, output));
+    let (rows, radius) = (&state.places[ROWS], &state.centres[RADIUS]);
+    let (held, i) = (state.numbers, Place(q.x));
+    let size = fold(state.letters, rows, radius, held, i, q.b, output);
     Some(Turn {
-        told,
+        told: value_told(size),
         entries: 0,
         output: q.m,
     })
 }
 
+/// The centre of the longest ending.
+fn longest_on(state: &State) -> Turn {
+    plain(value_told(longest(state.numbers).map(|c| c.0)))
+}
+
+/// The mask of prefix x.
+fn mask_on(state: &State, q: Request) -> Turn {
+    let mask = mask(&state.places[ROWS], state.numbers, Place(q.x));
+    plain(value_told(mask.map(usize::from)))
+}
+
+/// The radius at centre x.
+fn radius_on(state: &State, q: Request) -> Turn {
+    let lane = &state.centres[RADIUS];
+    plain(value_told(radius(lane, state.numbers, Centre(q.x))))
+}
+
+/// The next shorter ending after centre x.
+fn next_on(state: &State, q: Request) -> Turn {
+    let (radius, links) = (&state.centres[RADIUS], &state.centres[NEXT]);
+    let centre = next(radius, links, state.numbers, Centre(q.x));
+    plain(value_told(centre.map(|c| c.0)))
+}
+
 /// Makes the call of a request; lists and bytes are what is left to lend. None where
 /// there is no such call or too little is left.
 pub fn make(state: &mut State, lists: &mut [u16], bytes: &mut [u8], q: Request) -> Option<Turn> {
-    let c = Centre(q.x);
     match q.op {
-        0 => Some(plain(nothing_told(start::start(state, q.b)))),
+        0 => Some(plain(nothing_told(start(state, q.b)))),
         1 => feed_on(state, lists, q),
         2 => split_on(state, lists, q),
-        3 => Some(plain(value_told(reading::longest(state).map(|c| c.0)))),
-        4 => {
-            let mask = reading::mask(state, Place(q.x));
-            Some(plain(value_told(mask.map(usize::from))))
-        }
-        5 => Some(plain(value_told(reading::radius(state, c)))),
-        6 => Some(plain(value_told(reading::next(state, c).map(|c| c.0)))),
+        3 => Some(longest_on(state)),
+        4 => Some(mask_on(state, q)),
+        5 => Some(radius_on(state, q)),
+        6 => Some(next_on(state, q)),
         7 => fold_on(state, bytes, q),
         _ => None,
     }

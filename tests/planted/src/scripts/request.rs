@@ -1,5 +1,6 @@
 //! A call that the script asks for.
 
+use super::told::ANSWER_NUMBERS;
 use crate::cells::at;
 
 /// The call's number, and its arguments: a byte and two numbers of two bytes.
@@ -27,7 +28,7 @@ fn request_of(call: &[u8]) -> Request {
 
 /// The call after those made, where the script goes on and there is room for its answer.
 pub fn request_at(script: &[u8], room: usize, made: usize) -> Option<Request> {
-    if script.len() / 6 <= made || room / 3 <= made {
+    if script.len() / 6 <= made || room / ANSWER_NUMBERS <= made {
         return None;
     }
     Some(request_of(&script[6 * made..]))

@@ -1,25 +1,31 @@
-//! An answer in three numbers: 0 and two values, or 1, the number of the refusal and 0.
+//! An answer in four numbers: 0 and up to three values, or 1, the number of the refusal
+//! and zeros.
 
-use crate::feeding::feed::Taken;
+use crate::calls::feed::Taken;
 use crate::state::Answer;
 
-pub type Told = [usize; 3];
+/// The numbers of an answer.
+pub const ANSWER_NUMBERS: usize = 4;
+
+pub type Told = [usize; ANSWER_NUMBERS];
 
 fn refused(number: u8) -> Told {
-    [1, usize::from(number), 0]
+    [1, usize::from(number), 0, 0]
 }
 
 /// An answer that has no value.
 pub fn nothing_told(answer: Answer<()>) -> Told {
-    answer.map_or_else(refused, |()| [0, 0, 0])
+    answer.map_or_else(refused, |()| [0, 0, 0, 0])
 }
 
 /// An answer that has one value.
 pub fn value_told(answer: Answer<usize>) -> Told {
-    answer.map_or_else(refused, |value| [0, value, 0])
+    answer.map_or_else(refused, |value| [0, value, 0, 0])
 }
 
 /// The answer of a feed.
 pub fn taken_told(answer: Answer<Taken>) -> Told {
-    answer.map_or_else(refused, |taken| [0, usize::from(taken.mask), taken.count])
+    answer.map_or_else(refused, |taken| {
+        [0, usize::from(taken.mask), taken.count, 0]
+    })
 }

@@ -11,8 +11,7 @@ returns c =
     let e = p .before .before in
     rw (e .before .before .answer .given .1) (record {
       over = refl;
-      picks = refl;
-      longest = refl;
+      numbers = refl;
       counts = p .pick-line .ensures .0;
       bytes = rw (e .ending-length .ensures) at (p .pick-line .ensures .1);
     })
@@ -23,8 +22,7 @@ returns-2 c =
     let p = c .before .before in
     rw (p .before .before .before .answer2 .given .1) (record {
       over = refl;
-      picks = refl;
-      longest = refl;
+      numbers = refl;
       counts = p .refusal-line .ensures .0;
       bytes = p .refusal-line .ensures .1;
     })

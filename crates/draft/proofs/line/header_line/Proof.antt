@@ -10,7 +10,7 @@ unfolding headerLine
 returns c =
     let t = c .before .before in
     let s = t .before .before .before .before in
-    front headerLine (t .put-bytes .ensures) (omega (arith, s .pre, t .put-bytes .ensures .reached))
+    front headerLine (t .write-bytes .ensures) (omega (arith, s .pre, t .write-bytes .ensures .reached))
 
 pub header-line-spec : {M : Type 1} → statement M
 header-line-spec = tie.close (tie.spec (λ c. search needs) (λ c κs. search needs) (λ c. search needs) returns)

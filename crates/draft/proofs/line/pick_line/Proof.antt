@@ -14,9 +14,9 @@ returns c =
     let s = f₁ .before .before .before in
     let p = s .args in
     front (pickLine (p .picks) (p .mask) (p .visits) (p .longest))
-    (pick-as (p .picks) (p .mask) (p .visits) (p .longest) (f₁ .put-field .ensures .0) (f₂ .put-field2 .ensures .0) (f₃ .put-field3 .ensures .0)
-    (f₄ .put-field4 .ensures .0))
-    (omega (arith, s .pre, f₁ .put-field .ensures .1, f₂ .put-field2 .ensures .1, f₃ .put-field3 .ensures .1, f₄ .put-field4 .ensures .1))
+    (pick-as (p .picks) (p .mask) (p .visits) (p .longest) (f₁ .write-field .ensures .0) (f₂ .write-field2 .ensures .0) (f₃ .write-field3 .ensures .0)
+    (f₄ .write-field4 .ensures .0))
+    (omega (arith, s .pre, f₁ .write-field .ensures .1, f₂ .write-field2 .ensures .1, f₃ .write-field3 .ensures .1, f₄ .write-field4 .ensures .1))
 
 pub pick-line-spec : {M : Type 1} → statement M
 pick-line-spec =

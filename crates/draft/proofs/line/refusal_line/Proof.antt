@@ -13,8 +13,8 @@ returns c =
     let s = t .before .before .before .before in
     let p = s .args in
     front (refusalLine (p .number) (p .place))
-    (refusal-as (p .number) (p .place) (t .put-bytes .ensures) (f₁ .put-field .ensures .0) (f₂ .put-field2 .ensures .0))
-    (omega (arith, s .pre, t .put-bytes .ensures .reached, f₁ .put-field .ensures .1, f₂ .put-field2 .ensures .1))
+    (refusal-as (p .number) (p .place) (t .write-bytes .ensures) (f₁ .write-field .ensures .0) (f₂ .write-field2 .ensures .0))
+    (omega (arith, s .pre, t .write-bytes .ensures .reached, f₁ .write-field .ensures .1, f₂ .write-field2 .ensures .1))
 
 pub refusal-line-spec : {M : Type 1} → statement M
 refusal-line-spec =

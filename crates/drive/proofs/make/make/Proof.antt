@@ -1,79 +1,68 @@
 use borrow.Author.Needs.{needs}
-use mathlib.Core.Path.{refl}
-use native.Mathlib.Omega.{arith}
-use Rattle.drive.specs.Requests.{asks-start, asks-feed, asks-split, asks-longest, asks-mask, asks-radius, asks-next, asks-fold, asks-none, above}
-use Rattle.drive.specs.Makes.{stays, makes, same}
+use mathlib.Core.Path.{_≡_, sym, ap, _∙_}
+use lib.Seq.{length-take-le}
+use Rattle.drive.specs.Script.{Buffers, buffers, sizesOf, sizesFor}
+use Rattle.drive.specs.Calling.{Fits, fits-true, tries-none, tries-one}
 use Rattle.drive.proofs.make.make.Statement.{statement}
 use Rattle.drive.proofs.make.make.Tie as tie
 
+-- from the record after the tests: where the function begins, what is left to lend, and how much of it the call is lent
+
+abbrev begin : tie.After-fits2 → tie.Start
+begin x = x .before .before .before .before .before .before
+
+abbrev left : tie.After-fits2 → Buffers
+left x = let a = begin x .args in buffers (a .lists .now) (a .bytes .now) (a .input .now)
+
+sized : (x : tie.After-fits2) → x .before .sizes-of .result ≡ sizesFor (begin x .args .q .op) (begin x .args .q .m)
+sized x = x .before .sizes-of .ensures ∙ ap (λ w. sizesOf w (begin x .args .q .m)) (x .before .before .source-at .ensures)
+
+fitted : (t : tie.Then1) → Fits (begin (t .before) .args .q .op) (t .before .before .sizes-of .result) (left (t .before))
+fitted t = fits-true _ _ _ (sym (t .before .fits2 .ensures) ∙ t .if1 .taken)
+
+slice-relend-prefix-call : tie.Need-slice-relend-prefix-call
+slice-relend-prefix-call c = fitted (c .before .before .before) .entries
+
+slice-aggregate-call : tie.Need-slice-aggregate-call
+slice-aggregate-call c = sym (length-take-le _ _ (fitted (c .before .before .before .before) .entries))
+
+slice-relend-prefix-call-2 : tie.Need-slice-relend-prefix-call-2
+slice-relend-prefix-call-2 c = fitted (c .before .before .before .before) .output
+
+slice-aggregate-call-2 : tie.Need-slice-aggregate-call-2
+slice-aggregate-call-2 c = sym (length-take-le _ _ (fitted (c .before .before .before .before .before) .output))
+
+call-requires : tie.Need-call-requires
+call-requires c κs =
+    let t = c .before .before .before .before .before in
+    let g = fitted t in
+    record {
+      known = g .known;
+      entries = length-take-le _ _ (g .entries) ∙ ap (λ w. w .entries) (sized (t .before));
+      bytes = length-take-le _ _ (g .output) ∙ ap (λ w. w .output) (sized (t .before));
+    }
+
 returns : tie.Need-returns
 returns c =
-    let t = c .before .before .before .before .before .before .before .before .before in
-    let a = t .before .before .before .args in
-    rw (asks-start (a .q) (a .lists .now) (a .bytes .now) (t .match .keys1))
-    (makes (c .start-on .ensures (a .lists .now) (a .bytes .now)))
+    let r = c .before .before .before .before .before in
+    let t = r .before .before .before .before .before .before in
+    let x = t .before in
+    let z = x .before .sizes-of .result in
+    let g = fitted t in
+    rw (c .tried-as .ensures, ← (sized x))
+    (tries-one (begin x .args .q) (left x) (r .call .result .told) (r .call .result .numbers) z (sized x) (sym (x .fits2 .ensures) ∙ t .if1 .taken)
+    (r .call .kept .1 .1 .1 .0 ∙ length-take-le _ _ (g .entries)) (r .call .kept .1 .1 .1 .1 .0 ∙ length-take-le _ _ (g .output)) (r .call .ensures))
 
 returns-2 : tie.Need-returns-2
 returns-2 c =
-    let t = c .before .before .before .before .before .before .before .before .before .before .before .before in
-    let a = t .before .before .before .args in
-    rw (asks-feed (a .q) (a .lists .now) (a .bytes .now) (t .match .keys2))
-    (c .before .before .feed-on .ensures (a .bytes .now))
-
-returns-3 : tie.Need-returns-3
-returns-3 c =
-    let t = c .before .before .before .before .before .before in
-    let a = t .before .before .before .args in
-    rw (asks-split (a .q) (a .lists .now) (a .bytes .now) (t .match .keys3))
-    (c .before .before .split-on .ensures _ same refl refl (a .bytes .now))
-
-returns-4 : tie.Need-returns-4
-returns-4 c =
     let t = c .before in
-    let a = t .before .before .before .args in
-    rw (asks-longest (a .q) (a .lists .now) (a .bytes .now) (t .match .keys4))
-    (makes (c .longest-on .ensures _ same (a .lists .now) (a .bytes .now)))
-
-returns-5 : tie.Need-returns-5
-returns-5 c =
-    let t = c .before .before in
-    let a = t .before .before .before .args in
-    rw (asks-mask (a .q) (a .lists .now) (a .bytes .now) (t .match .keys5))
-    (makes (c .mask-on .ensures _ same refl (a .lists .now) (a .bytes .now)))
-
-returns-6 : tie.Need-returns-6
-returns-6 c =
-    let t = c .before .before in
-    let a = t .before .before .before .args in
-    rw (asks-radius (a .q) (a .lists .now) (a .bytes .now) (t .match .keys6))
-    (makes (c .radius-on .ensures _ same refl (a .lists .now) (a .bytes .now)))
-
-returns-7 : tie.Need-returns-7
-returns-7 c =
-    let t = c .before .before .before in
-    let a = t .before .before .before .args in
-    rw (asks-next (a .q) (a .lists .now) (a .bytes .now) (t .match .keys7))
-    (makes (c .next-on .ensures _ same refl refl (a .lists .now) (a .bytes .now)))
-
-returns-8 : tie.Need-returns-8
-returns-8 c =
-    let t = c .before .before .before .before .before .before .before in
-    let a = t .before .before .before .args in
-    rw (asks-fold (a .q) (a .lists .now) (a .bytes .now) (t .match .keys8))
-    (c .before .before .fold-on .ensures _ same refl refl refl (a .lists .now))
-
-returns-9 : tie.Need-returns-9
-returns-9 c =
-    let a = c .before .before .before .before .args in
-    let r = c .before .match .rest in
-    let past = above (above (above (above (omega arith) (r .0 .0 .0 .0 .0 .0 .0 .1)) (r .0 .0 .0 .0 .0 .0 .1)) (r .0 .0 .0 .0 .0 .1)) (r .0 .0 .0 .0 .1) in
-    let none-left = above (above (above (above past (r .0 .0 .0 .1)) (r .0 .0 .1)) (r .0 .1)) (r .1) in
-    rw (asks-none (a .q) (a .lists .now) (a .bytes .now) none-left, c .none .ensures)
-    (stays (record { ends = refl; state = refl; entries = refl; output = refl }))
+    let x = t .before in
+    rw (c .none .ensures)
+    (tries-none (begin x .args .q) (left x) (x .before .sizes-of .result) (sized x) (sym (x .fits2 .ensures) ∙ t .if1 .left))
 
 pub make-spec : {M : Type 1} → statement M
 make-spec =
     tie.close
-    (tie.spec (λ c κs. search needs) (λ c κs. search needs) (λ c κs. search needs) (λ c κs. search needs) (λ c κs. search needs)
-    (λ c κs. search needs) (λ c κs. search needs) (λ c κs. search needs) (λ c κs. search needs) returns (λ c. search needs) returns-2
-    (λ c. search needs) returns-3 returns-4 returns-5 returns-6 returns-7 (λ c. search needs) returns-8 returns-9)
+    (tie.spec (λ c κs. search needs) (λ c κs. search needs) (λ c κs. search needs) slice-relend-prefix-call slice-aggregate-call
+    slice-relend-prefix-call-2 slice-aggregate-call-2 call-requires (λ c κs. search needs) (λ c. search needs) (λ c. search needs) returns
+    (λ c κs. search needs) returns-2)

@@ -1,4 +1,4 @@
-use Rattle.models.specs.Turns.{period-as, period-small}
+use Rattle.models.specs.EngineCode.{period-as, period-small}
 use borrow.Author.Needs.{needs}
 use Rattle.engine.proofs.visits.period_of.Statement.{statement}
 use Rattle.engine.proofs.visits.period_of.Tie as tie
@@ -10,8 +10,8 @@ returns c =
     let a = x .before in
     let o = a .before in
     let p = o .before .args in (
-      period-as (p .next .now) (p .n) (p .len) (o .centre-of .result .0) (a .at-centre .result) (x .wide .result) (d .minus .result) _
-          (o .centre-of .ensures) (a .at-centre .ensures) (x .wide .ensures) (d .minus .ensures) (c .within .ensures),
+      period-as (p .next .now) (p .n) (p .len) (o .centre-of .result .0) (a .centre-entry .result) (x .wide .result) (d .minus .result) _
+          (o .centre-of .ensures) (a .centre-entry .ensures) (x .wide .ensures) (d .minus .ensures) (c .within .ensures),
       period-small (d .minus .result) (c .within .ensures) (o .before .pre .1),
     )
 

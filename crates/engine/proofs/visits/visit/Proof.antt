@@ -1,7 +1,10 @@
 use mathlib.Core.Path.{refl}
+use Prim.Native.Nat.{_+_, _-_, _%_, _<_}
 use native.Mathlib.Omega.{arith}
+use native.Mathlib.Nat.{mod-lt}
 use lib.Bits.{bitOr}
-use Rattle.models.specs.Turns.{mended-short, mended-long, visit-as, thrice}
+use Rattle.cells.specs.Lanes.{byPlace}
+use Rattle.models.specs.EngineCode.{mended-short, mended-long, visit-as, next-short, next-long}
 use borrow.Author.Needs.{needs}
 use Rattle.engine.proofs.visits.visit.Statement.{statement}
 use Rattle.engine.proofs.visits.visit.Tie as tie
@@ -9,51 +12,55 @@ use Rattle.engine.proofs.visits.visit.Tie as tie
 returns : tie.Need-returns
 returns c =
     let o = c .before .before in
-    let t = o .before in
-    let i = t .before in
-    let d = i .before in
-    let q = d .before in
+    let t = o .before .before in
+    let q = t .before in
     let p = q .before .args in
-    visit-as (p .rows .now) (p .next .now) (p .gathered .now) _ (p .n) (p .len) (q .period-of .result) _ (o .at-place .result) (i .minus .result)
-    (q .period-of .ensures .0) (d .next-leading .ensures)
-    (mended-short (p .rows .now) (p .gathered .now) (p .n) (p .len) (q .period-of .result) (i .minus .result) _ (i .minus .ensures)
-    (omega (arith, t .if1 .taken)) (omega (arith, o .at-place .ensures)))
-    (i .minus .ensures) (c .store-at-place .ensures)
+    let x = q .period-of .result in
+    visit-as (p .next .now) (byPlace (p .places .now)) _ (p .n) (p .len) x (p .len - x) (o .place-entry .result) (p .n - p .len)
+    (q .period-of .ensures .0) (next-short (p .len) x (q .period-of .ensures .1 .0) (q .period-of .ensures .1 .1) (t .if1 .taken))
+    (mended-short (byPlace (p .places .now) .rows) (byPlace (p .places .now) .gathered) (p .n) (p .len) x (p .n - p .len) _ refl
+    (t .if1 .taken) (o .place-entry .ensures))
+    refl (c .put-place-entry .ensures)
 
 returns-2 : tie.Need-returns-2
 returns-2 c =
     let b = c .before .before in
-    let a = b .before in
-    let j = a .before .before in
-    let x = j .before in
-    let t = x .before in
-    let i = t .before in
-    let d = i .before in
-    let q = d .before in
+    let a = b .before .before in
+    let t = a .before .before in
+    let q = t .before in
     let p = q .before .args in
-    visit-as (p .rows .now) (p .next .now) (p .gathered .now) _ (p .n) (p .len) (q .period-of .result) _ _ (i .minus .result)
-    (q .period-of .ensures .0) (d .next-leading .ensures)
-    (mended-long (p .rows .now) (p .gathered .now) (p .n) (p .len) (q .period-of .result) (i .minus .result)
-    (bitOr (a .at-place2 .result) (b .at-place3 .result)) (i .minus .ensures)
-    (d .next-leading .result) (j .minus3 .result) (a .at-place2 .result) (b .at-place3 .result) (omega (arith, t .if1 .left))
-    (d .next-leading .ensures)
-    (omega (arith, j .minus3 .ensures, x .minus2 .ensures)) (a .at-place2 .ensures) (b .at-place3 .ensures) refl)
-    (i .minus .ensures) (c .store-at-place2 .ensures)
+    let x = q .period-of .result in
+    let d = x + p .len % x in
+    let e = next-long (p .len) x (q .period-of .ensures .1 .0) (t .if1 .left) in
+    visit-as (p .next .now) (byPlace (p .places .now)) _ (p .n) (p .len) x d _ (p .n - p .len)
+    (q .period-of .ensures .0) e
+    (mended-long (byPlace (p .places .now) .rows) (byPlace (p .places .now) .gathered) (p .n) (p .len) x (p .n - p .len)
+    (bitOr (a .place-entry2 .result) (b .place-entry3 .result)) refl
+    d (p .n - d - x) (a .place-entry2 .result) (b .place-entry3 .result) (t .if1 .left) e refl (a .place-entry2 .ensures) (b .place-entry3 .ensures) refl)
+    refl (c .put-place-entry2 .ensures)
+
+rest : (c : tie.Else1) → c .before .before .args .len % c .before .period-of .result < c .before .period-of .result
+rest c = mod-lt (c .before .before .args .len) {m = c .before .period-of .result} (c .before .period-of .ensures .1 .0)
 
 pub visit-spec : {M : Type 1} → statement M
 visit-spec =
     tie.close
     (tie.spec
     (λ c κs. search needs)
-    (λ c κs. (c .period-of .ensures .1 .0, c .period-of .ensures .1 .1, c .before .pre .1))
+    (λ c. search needs)
+    (λ c. omega (arith, c .period-of .ensures .1 .1))
+    (λ c. search needs)
     (λ c κs. search needs)
-    (λ c. record { fits = thrice (c .before .before .period-of .ensures .1 .1) })
     (λ c κs. search needs)
-    (λ c κs. search needs)
+    (λ c. search needs)
     returns
-    (λ c κs. search needs)
-    (λ c κs. search needs)
-    (λ c κs. search needs)
-    (λ c κs. search needs)
+    (λ c. c .before .period-of .ensures .1 .0)
+    (λ c. omega (arith, rest c, c .before .period-of .ensures .1 .1))
+    (λ c. omega (arith, rest c))
+    (λ c. omega (arith, rest c))
+    (λ c. search needs)
+    (λ c κs. omega arith)
+    (λ c. search needs)
+    (λ c κs. omega arith)
     (λ c κs. search needs)
     returns-2)

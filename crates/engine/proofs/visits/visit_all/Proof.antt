@@ -3,20 +3,21 @@ use Prim.Native.Nat.{ℕ, _+_, _≤_, _<_}
 use native.Mathlib.Omega.{arith}
 use lib.ListN.{length, length-set}
 use lib.Bits.{bitOr}
-use Rattle.models.specs.Engine.{walk, seen}
+use Rattle.cells.specs.Lanes.{byPlace}
 use Rattle.models.specs.Walking.{walk-less}
-use Rattle.models.specs.Turns.{walk-on, walk-end}
+use Rattle.models.specs.EngineCode.{seenIn, walk-on, walk-end}
 use borrow.Author.Needs.{needs}
 use Rattle.engine.proofs.visits.visit_all.Statement.{statement}
 use Rattle.engine.proofs.visits.visit_all.Tie as tie
 
 abbrev Inv-loop : tie.InvT-loop
-Inv-loop rows gathered₀ next visits₀ n longest union₀ count₀ len₀ gathered visits union count len =
+Inv-loop next places₀ visits₀ n longest union₀ count₀ len₀ places visits union count len =
     (k : ℕ) × (len ≤ k) × (count + len ≤ longest) × (length visits ≡ length visits₀)
-    × (seen (walk bitOr rows next n k len gathered union) visits count ≡ seen (walk bitOr rows next n longest longest gathered₀ 0) visits₀ 0)
+    × (seenIn next n k len union (byPlace places) visits count
+    ≡ seenIn next n longest longest 0 (byPlace places₀) visits₀ 0)
 
 abbrev μ-loop : tie.MeasureT-loop
-μ-loop rows gathered₀ next visits₀ n longest union₀ count₀ len₀ gathered visits union count len = len
+μ-loop next places₀ visits₀ n longest union₀ count₀ len₀ places visits union count len = len
 
 loop-holds : tie.Need-loop-holds Inv-loop μ-loop
 loop-holds c = (c .before .args .longest, omega arith, omega arith, refl, refl)
@@ -38,9 +39,9 @@ loop-again c =
     let p = h .before .before .before .args in
     let d : v .visit .result .next < l .len = omega
     (arith, v .visit .ensures .0, walk-less (p .next .now) (p .n) (l .len) (omega (arith, h .loop-test .taken))) in
-    let t = walk-on (p .rows .now) (p .next .now) (p .n) (l .inv .0) (l .len) (v .visit .result .next) (v .visit .result .word) (l .union)
+    let t = walk-on (p .next .now) (p .n) (l .inv .0) (l .len) (v .visit .result .next) (v .visit .result .word) (l .union)
     (bitOr (l .union) (v .visit .result .word))
-    (l .count) (l .count + 1) (e .narrow .result) (l .gathered) (v .visit .last .1 .0) (l .visits) (o .store .last .0) (l .inv .1)
+    (l .count) (l .count + 1) (e .narrow .result) (byPlace (l .places)) (byPlace (v .visit .last .1 .0)) (l .visits) (o .store .last .0) (l .inv .1)
     (omega (arith, h .loop-test .taken))
     (v .visit .ensures .0) (v .visit .ensures .1 .0) (v .visit .ensures .1 .1) (omega (arith, e .narrow .ensures)) (o .store .ensures) refl
     (omega arith) in (
@@ -56,7 +57,7 @@ returns : tie.Need-returns Inv-loop μ-loop
 returns c =
     let l = c .before .loop in
     let p = c .before .before .before .args in
-    sym (walk-end (p .rows .now) (p .next .now) (p .n) (l .inv .0) (l .len) (l .union) (l .count) (l .gathered) (l .visits)
+    sym (walk-end (p .next .now) (p .n) (l .inv .0) (l .len) (l .union) (l .count) (byPlace (l .places)) (l .visits)
     (omega (arith, c .loop-test .left))) ∙ l .inv .4
 
 pub visit-all-spec : {M : Type 1} → statement M

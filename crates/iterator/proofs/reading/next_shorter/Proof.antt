@@ -1,7 +1,7 @@
 use mathlib.Core.Path.{sym, _∙_}
 use native.Mathlib.Omega.{arith}
 use Rattle.models.specs.Answers.{next-promised}
-use Rattle.models.specs.Turns.{next-there, next-missing}
+use Rattle.models.specs.IteratorCode.{next-there, next-missing}
 use borrow.Author.Needs.{needs}
 use Rattle.iterator.proofs.reading.next_shorter.Statement.{statement}
 use Rattle.iterator.proofs.reading.next_shorter.Tie as tie

@@ -1,5 +1,5 @@
 use native.Mathlib.Omega.{arith}
-use Rattle.models.specs.Turns.{reflected-as}
+use Rattle.models.specs.IteratorCode.{reflected-as}
 use borrow.Author.Needs.{needs}
 use Rattle.iterator.proofs.reflection.reflected_radius.Statement.{statement}
 use Rattle.iterator.proofs.reflection.reflected_radius.Tie as tie

@@ -1,5 +1,5 @@
 use native.Mathlib.Omega.{arith}
-use Rattle.record.specs.Turns.{section-size-as}
+use Rattle.record.specs.RecordCode.{section-size-as}
 use borrow.Author.Needs.{needs}
 use Rattle.record.proofs.section.section_size.Statement.{statement}
 use Rattle.record.proofs.section.section_size.Tie as tie

@@ -1,7 +1,7 @@
 use native.Mathlib.Omega.{arith}
 use Rattle.words.specs.Definitions.{word}
-use Rattle.record.specs.Fields.{length-stretch}
-use Rattle.record.specs.Turns.{section-as}
+use Rattle.words.specs.Mirror.{stretch-length}
+use Rattle.record.specs.RecordCode.{section-as}
 use borrow.Author.Needs.{needs}
 use Rattle.record.proofs.section.write_section.Statement.{statement}
 use Rattle.record.proofs.section.write_section.Tie as tie
@@ -43,7 +43,7 @@ returns c =
         d .write-decimal .ensures .1,
         s .write-byte2 .ensures .reached,
         t .write-letters .ensures .reached,
-        length-stretch w (p .a) (h .first-half .result),
+        stretch-length w (p .a) (h .first-half .result),
       ),
     )
 

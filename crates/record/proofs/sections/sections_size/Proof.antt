@@ -3,7 +3,7 @@ use Prim.Native.Nat.{_+_, _-_, _*_, _≤_}
 use native.Mathlib.Omega.{arith}
 use lib.ListN.{length, drop}
 use Rattle.record.specs.Fields.{mostSectionSize, sectionsSize}
-use Rattle.record.specs.Turns.{sizes-turn, sizes-end}
+use Rattle.record.specs.RecordCode.{sizes-more, sizes-end}
 use borrow.Author.Needs.{needs}
 use Rattle.record.proofs.sections.sections_size.Statement.{statement}
 use Rattle.record.proofs.sections.sections_size.Tie as tie
@@ -24,7 +24,7 @@ loop-again c =
     let p = h .before .before .before .args in (
       omega arith,
       omega (arith, s .ensures .1, l .inv .1),
-      sizes-turn (l .a) (e .end-of .result) (l .j) (l .size) (s .result) (p .ends .now) (h .loop-test .taken) (e .end-of .ensures .0)
+      sizes-more (l .a) (e .end-of .result) (l .j) (l .size) (s .result) (p .ends .now) (h .loop-test .taken) (e .end-of .ensures .0)
           (s .ensures .0)
           ∙ l .inv .2,
     )

@@ -4,9 +4,9 @@ use Prim.Native.Nat.{ℕ, _+_, _-_, _*_, _≤_, _<_}
 use native.Mathlib.Omega.{arith}
 use lib.ListN.{length, drop}
 use Rattle.words.specs.Definitions.{word}
-use Rattle.record.specs.Stores.{Writes, writes-length}
+use Rattle.text.specs.Writes.{Writes, writes-length}
 use Rattle.record.specs.Fields.{mostSectionSize, sectionBytes, sectionsBytes}
-use Rattle.record.specs.Turns.{sections-turn, sections-end}
+use Rattle.record.specs.RecordCode.{sections-more, sections-end}
 use borrow.Author.Needs.{needs}
 use Rattle.record.proofs.sections.write_sections.Statement.{statement}
 use Rattle.record.proofs.sections.write_sections.Tie as tie
@@ -36,7 +36,7 @@ loop-again c =
       e .end-of .ensures .1,
       omega (arith, s .write-section .ensures .1, l .inv .2),
       writes-length (sectionBytes w (l .a) (e .end-of .result)) (s .write-section .ensures .0) ∙ l .inv .3,
-      λ m b f. l .inv .4 m b (sections-turn w (l .a) (e .end-of .result) (l .j) (p .ends .now) (h .loop-test .taken) (e .end-of .ensures .0)
+      λ m b f. l .inv .4 m b (sections-more w (l .a) (e .end-of .result) (l .j) (p .ends .now) (h .loop-test .taken) (e .end-of .ensures .0)
           (s .write-section .ensures .0) f),
     )
 

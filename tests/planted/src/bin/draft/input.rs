@@ -1,12 +1,10 @@
 //! Standard input, a byte at a time: nothing is read past the byte that ends the run.
 
 use drive::cells::SECTIONS;
+use drive::text::LINE_END;
 use std::fs::File;
 use std::io::{stdin, Read};
 use std::os::fd::AsFd;
-
-/// The byte that closes the first line, and the picks.
-pub const LINE_END: u8 = 10;
 
 /// The input, without a buffer.
 pub struct Input {

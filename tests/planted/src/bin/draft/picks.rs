@@ -2,9 +2,9 @@
 
 use crate::input::Input;
 use crate::line::{print_pick, print_refusal};
-use drive::cells::{Centre, PICKS, VISITS};
-use drive::feeding::feed::feed;
-use drive::feeding::start::start;
+use drive::calls::feed::feed;
+use drive::calls::start::start;
+use drive::cells::{Centre, Numbers, PICKS, VISITS};
 use drive::state::State;
 use std::io::Write;
 
@@ -12,20 +12,20 @@ use std::io::Write;
 const FIRST_LINE: usize = 2;
 
 /// The length of the longest ending, from its centre.
-fn longest_length(state: &State) -> usize {
-    (2 * state.n + 1).saturating_sub(state.longest.0)
+fn longest_length(held: Numbers) -> usize {
+    (2 * held.n + 1).saturating_sub(held.longest.0)
 }
 
 /// Feeds a pick and prints its line; tells whether the run goes on.
 fn take_pick(state: &mut State, pick: u8, output: &mut impl Write) -> bool {
     match feed(state, pick, &mut [0; VISITS]) {
         Ok(taken) => {
-            let longest = longest_length(state);
-            print_pick(output, state.n, taken.mask, taken.count, longest);
+            let longest = longest_length(state.numbers);
+            print_pick(output, state.numbers.n, taken.mask, taken.count, longest);
             true
         }
         Err(number) => {
-            print_refusal(output, number, FIRST_LINE + state.n);
+            print_refusal(output, number, FIRST_LINE + state.numbers.n);
             false
         }
     }
@@ -34,17 +34,14 @@ fn take_pick(state: &mut State, pick: u8, output: &mut impl Write) -> bool {
 /// Starts a draft with K and takes the picks of the input one by one.
 pub fn run(input: &mut Input, output: &mut impl Write, k: usize) {
     let mut state = State {
-        n: 0,
-        k: 0,
-        longest: Centre(0),
+        numbers: Numbers {
+            n: 0,
+            k: 0,
+            longest: Centre(0),
+        },
         letters: &mut [0; PICKS],
-        radius: &mut [0; 2 * PICKS + 2],
-        heads: &mut [0; PICKS + 1],
-        lends: &mut [0; 2 * PICKS + 2],
-        next: &mut [0; 2 * PICKS + 2],
-        prev: &mut [0; 2 * PICKS + 2],
-        rows: &mut [0; PICKS + 1],
-        gathered: &mut [0; PICKS + 1],
+        centres: &mut [[0; 2 * PICKS + 2]; 4],
+        places: &mut [[0; PICKS + 1]; 3],
     };
     if start(&mut state, k).is_err() {
         return;

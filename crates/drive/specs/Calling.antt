@@ -1,0 +1,160 @@
+-- One call of a script: what the code promises of it.
+use mathlib.Core.Path.{_≡_, refl, sym, ap, _∙_}
+use mathlib.Core.Bool.{true, false, cond, and-eq-true-iff}
+use mathlib.Core.List.{List, [], _∷_, _++_}
+use mathlib.Core.Option.{Option, some, none}
+use Prim.Native.Nat.{ℕ, _≤_, _<_}
+use native.Mathlib.Omega.{arith}
+use lib.Dec.{leb, ltb}
+use lib.ListN.{length, drop}
+use borrow.Author.Tests.{leb-true, ltb-true, le-leb, lt-ltb}
+use Rattle.cells.specs.declared.Numbers.{Numbers}
+use Rattle.promises.specs.declared.Draft.{Draft}
+use Rattle.promises.specs.declared.StartAnswer.{StartAnswer}
+use Rattle.promises.specs.declared.FeedAnswer.{FeedAnswer}
+use Rattle.promises.specs.Answers.{Reply, startSays, feedSays}
+use Rattle.promises.specs.Book.{Query, Call, start, feed, ask}
+use Rattle.promises.specs.Promises.{StartPromise, FeedPromise, Reads}
+use Rattle.promises.specs.Lent.{startedAs, fedAs}
+use Rattle.promises.specs.Runs.{Made, started, fed, asked, callOf, replyOf, Meets, leaves}
+use Rattle.drive.specs.Script.{Buffers, buffers, callOn, sourceOf, ofLists, ofBytes, listFrom, sizesFor, callCount, fits, fitsIn, parts, callFor}
+use Rattle.drive.specs.declared.lending.Sizes.{Sizes}
+use Rattle.drive.specs.Drives.{encoded, answersOf, entriesOf, bytesOf}
+use Rattle.drive.specs.Told.{numbersOf}
+use Rattle.drive.specs.Requests.{requested}
+use Rattle.drive.specs.Parts.{Lends}
+use Rattle.drive.specs.declared.told.Told.{Told}
+use Rattle.drive.specs.declared.request.Request.{Request}
+use Rattle.drive.specs.declared.make.Tried.{Tried}
+
+-- c was made on d: told is its answer, e the state after it, list and output what it was lent, as it left them
+pub record Makes (d : Draft) (c : Call) (told : Told) (e : Draft) (list output : List ℕ) : Type 0 where
+  pub made : Made
+  pub meets : Meets d made
+  pub call : callOf made ≡ c
+  pub left : leaves d made ≡ e
+  pub says : numbersOf told ≡ answersOf made
+  pub entries : list ≡ entriesOf made
+  pub bytes : output ≡ bytesOf made
+
+-- a request is lent so much
+pub record Lent (q : Request) (list output : List ℕ) : Type 0 where
+  pub known : q .op < callCount
+  pub entries : length list ≡ sizesFor (q .op) (q .m) .entries
+  pub bytes : length output ≡ sizesFor (q .op) (q .m) .output
+
+-- the call of a request on what it is lent; list and output are as at entry, then as at exit. None reads input yet
+abbrev pub Answers : Draft → Request → (list output : List ℕ) → Told → Draft → (list' output' : List ℕ) → Type 0
+Answers d q list output told e list' output' =
+    (input : List ℕ) → Makes d (callOn (q .op) (q .b) (q .x) (buffers list output input)) told e list' output'
+
+pub none-left : (list : List ℕ) → length list ≡ 0 → list ≡ []
+none-left [] e = refl
+none-left (x ∷ list) e = absurd (omega arith)
+
+-- Each kind of call
+
+pub query-makes : {d : Draft} {told : Told} {list output : List ℕ} (q : Query) (r : Reply) → Reads d q r → numbersOf told ≡ encoded (r .said)
+    → list ≡ listFrom ofLists (ask q) (r .list) → output ≡ listFrom ofBytes (ask q) (r .list) → Makes d (ask q) told d list output
+unfolding Meets callOf leaves replyOf
+query-makes q r p s l o = record { made = asked q r; meets = p; call = refl; left = refl; says = s; entries = l; bytes = o }
+
+pub start-makes : {d e : Draft} {K : ℕ} {answer : StartAnswer} {told : Told} {list output : List ℕ} → StartPromise d K (startedAs answer e)
+    → numbersOf told ≡ encoded (startSays answer) → list ≡ [] → output ≡ [] → Makes d (start K) told e list output
+unfolding Meets callOf leaves replyOf sourceOf
+start-makes {d} {e} {K} {answer} p s l o =
+    record { made = started K (startedAs answer e); meets = p; call = refl; left = refl; says = s; entries = l; bytes = o }
+
+pub feed-makes : {d e : Draft} {pick : ℕ} {before after : List ℕ} {answer : FeedAnswer} {told : Told} {output : List ℕ}
+    → FeedPromise d pick before (fedAs answer e) after → numbersOf told ≡ encoded (feedSays answer) → output ≡ []
+    → Makes d (feed pick before) told e after output
+unfolding Meets callOf leaves replyOf sourceOf
+feed-makes {d} {e} {pick} {before} {after} {answer} p s o =
+    record { made = fed pick before (fedAs answer e) after; meets = p; call = refl; left = refl; says = s; entries = refl; bytes = o }
+
+-- What fits
+
+pub record Fits (op : ℕ) (z : Sizes) (left : Buffers) : Type 0 where
+  pub known : op < callCount
+  pub entries : z .entries ≤ length (left .lists)
+  pub output : z .output ≤ length (left .bytes)
+  pub input : z .input ≤ length (left .input)
+
+pub fits-last : (op : ℕ) (z : Sizes) (lists bytes input : ℕ) → op < callCount → z .entries ≤ lists → z .output ≤ bytes
+    → leb (z .input) input ≡ fits op z lists bytes input
+fits-last op z lists bytes input a b c = rw (lt-ltb op callCount a, le-leb (z .entries) lists b, le-leb (z .output) bytes c)
+
+pub fits-true : (op : ℕ) (z : Sizes) (left : Buffers) → fitsIn op z left ≡ true → Fits op z left
+fits-true op z left e =
+    let a = and-eq-true-iff (ltb op callCount) _ .0 e in
+    let b = and-eq-true-iff (leb (z .entries) (length (left .lists))) _ .0 (a .1) in
+    let c = and-eq-true-iff (leb (z .output) (length (left .bytes))) (leb (z .input) (length (left .input))) .0 (b .1) in
+    record { known = ltb-true _ _ (a .0); entries = leb-true _ _ (b .0); output = leb-true _ _ (c .0); input = leb-true _ _ (c .1) }
+
+-- The next call, of what is left to lend
+
+-- c was made
+pub record Takes (d : Draft) (c : Call) (z : Sizes) (s : Buffers) (t : Tried) (e : Draft) (lists' bytes' : List ℕ) : Type 0 where
+  pub one : t .made ≡ true
+  pub made : Made
+  pub meets : Meets d made
+  pub call : callOf made ≡ c
+  pub left : leaves d made ≡ e
+  pub says : numbersOf (t .told) ≡ answersOf made
+  pub entries : t .entries ≡ z .entries
+  pub output : t .output ≡ z .output
+  pub input : t .input ≡ z .input
+  pub listed : Lends (s .lists) (z .entries) (entriesOf made) lists'
+  pub written : Lends (s .bytes) (z .output) (bytesOf made) bytes'
+  pub read : z .input ≤ length (s .input)
+
+-- none was made
+pub record Stays (d : Draft) (left : Buffers) (t : Tried) (e : Draft) (lists' bytes' : List ℕ) : Type 0 where
+  pub ends : t .made ≡ false
+  pub state : e ≡ d
+  pub entries : lists' ≡ left .lists
+  pub output : bytes' ≡ left .bytes
+
+pub data Tries (d : Draft) (z : Sizes) (left : Buffers) (t : Tried) (e : Draft) (lists' bytes' : List ℕ) : Option Call → Type 0 where
+  stays : Stays d left t e lists' bytes' → Tries d z left t e lists' bytes' none
+  takes : {c : Call} → Takes d c z left t e lists' bytes' → Tries d z left t e lists' bytes' (some c)
+
+-- as the code has it
+abbrev pub triedAs : Told → Numbers → Sizes → Tried
+triedAs told numbers z =
+    record { made = true; told = told; numbers = numbers; entries = z .entries; output = z .output; input = z .input }
+
+abbrev pub noneTried : Numbers → Tried
+noneTried held =
+    record { made = false; told = record { kind = 0; first = 0; second = 0; third = 0 }; numbers = held; entries = 0; output = 0; input = 0 }
+
+called-on : (q : Request) (left : Buffers) (z : Sizes) → z ≡ sizesFor (q .op) (q .m)
+    → requested q left ≡ cond (fitsIn (q .op) z left) (some (callOn (q .op) (q .b) (q .x) (parts z left))) none
+unfolding callFor
+called-on q left z e = ap (λ y. cond (fitsIn (q .op) y left) (some (callOn (q .op) (q .b) (q .x) (parts y left))) none) (sym e)
+
+pub tries-none : {d : Draft} {held : Numbers} (q : Request) (left : Buffers) (z : Sizes) → z ≡ sizesFor (q .op) (q .m) → fitsIn (q .op) z left ≡ false
+    → Tries d (sizesFor (q .op) (q .m)) left (noneTried held) d (left .lists) (left .bytes) (requested q left)
+tries-none q left z is f = rw (called-on q left z is, f) (stays (record { ends = refl; state = refl; entries = refl; output = refl }))
+
+pub tries-one : {d e : Draft} (q : Request) (left : Buffers) (told : Told) (numbers : Numbers) {list output : List ℕ} (z : Sizes)
+    → z ≡ sizesFor (q .op) (q .m) → fitsIn (q .op) z left ≡ true → length list ≡ z .entries → length output ≡ z .output
+    → Answers d q (parts z left .lists) (parts z left .bytes) told e list output
+    → Tries d z left (triedAs told numbers z) e (list ++ drop (z .entries) (left .lists)) (output ++ drop (z .output) (left .bytes)) (requested q left)
+tries-one q left told numbers z is f l o m =
+    let a = m (parts z left .input) in
+    let g = fits-true (q .op) z left f in
+    rw (called-on q left z is, f) (takes (record {
+      one = refl;
+      made = a .made;
+      meets = a .meets;
+      call = a .call;
+      left = a .left;
+      says = a .says;
+      entries = refl;
+      output = refl;
+      input = refl;
+      listed = record { fits = g .entries; size = ap length (sym (a .entries)) ∙ l; is = ap (λ x. x ++ drop (z .entries) (left .lists)) (a .entries) };
+      written = record { fits = g .output; size = ap length (sym (a .bytes)) ∙ o; is = ap (λ x. x ++ drop (z .output) (left .bytes)) (a .bytes) };
+      read = g .input;
+    }))

@@ -1,0 +1,146 @@
+-- What is found, from the book and in the stored arrays: which line refuses it, or what it says.
+use mathlib.Core.Path.{_≡_, refl, ap, _∙_}
+use mathlib.Core.Bool.{Bool, true, false, cond}
+use mathlib.Core.Logic.{inl, inr}
+use mathlib.Core.List.{List, [], _∷_, List·Memᴰ, List·Memᴰ·head, List·Memᴰ·tail}
+use mathlib.Core.Option.{Option, some, none}
+use Prim.Native.Nat.{ℕ, suc, _+_, _*_, _-_, _≤_, _<_}
+use native.Mathlib.Omega.{arith}
+use native.Mathlib.Decide.{decLt}
+use lib.Dec.{leb}
+use lib.ListN.{length}
+use borrow.Author.Tests.{le-leb, lt-leb}
+use Rattle.words.specs.Definitions.{word, centre, Ending}
+use Rattle.words.specs.Search.{both?}
+use Rattle.words.specs.Mirror.{ending?}
+use Rattle.words.specs.Computed.{nextEnding, nextAfter, radiusAt, splitOf}
+use Rattle.words.specs.Computed.{mask as maskOf}
+use Rattle.words.specs.Laws.{row-bit, row-past, mask-bit, next-ending, next-centre, next-after, next-missing, radius-at}
+use Rattle.words.specs.Splits.{Splitting, given, lacking, split-law, named-one}
+use Rattle.promises.specs.Answers.{gave, refused, Reply, reply, filled}
+use Rattle.promises.specs.Record.{recordOf}
+use Rattle.promises.specs.Book.{Book, Call, ask, lent, split, next, fold}
+use Rattle.promises.specs.Replies.{orNoSplit, orNoEnding, orTooLong, gives, splitReply, recordReply}
+use Rattle.promises.specs.Listed.{Line, First, NoneMet, Outside, recordLonger, noSplit, noEnding}
+use Rattle.promises.specs.Says.{Yes, RadiusSays, Says}
+use Rattle.promises.specs.Demands.{Accepted}
+use Rattle.promises.proofs.Keeping.{gave-accepted}
+
+-- A reply, and the lines that were met
+
+-- refused under the first of them, or none is met and the reply is what document 01 says
+pub data Outcome (b : Book) (call : Call) (ls : List Line) (r : Reply) : Type 0 where
+  under : (number : ℕ) → First ls number → r ≡ reply (refused number) (lent call) → Outcome b call ls r
+  fine : NoneMet ls → Accepted (r .said) → Says b call r → Outcome b call ls r
+
+-- From the book
+
+not-outside : (low high x : ℕ) → (Outside low high x → ⊥) → (low ≤ x) × (x ≤ high)
+not-outside low high x f = elim (decLt x low) [
+  | yes l ↦ absurd (f (inl l))
+  | no l ↦ elim (decLt high x) [ yes m ↦ absurd (f (inr m)) | no m ↦ (omega arith, omega arith) ]
+]
+
+-- the mask's bits
+pub mask-yes : (K : ℕ) (u : List ℕ) (i : ℕ) → Yes K u i (maskOf K (word u) i)
+mask-yes K u i = record {
+  exactly = λ k a b. let z : suc (k - 1) ≡ k = omega arith in rw (mask-bit K (word u) i (k - 1), z) (row-bit K (word u) i k b);
+  past = λ k a. let z : suc (k - 1) ≡ k = omega arith in rw (mask-bit K (word u) i (k - 1), z) (row-past K (word u) i k a);
+}
+
+-- a split, or the want of one
+pub splits-found : (b : Book) (i k : ℕ) (list : List ℕ)
+    → Outcome b (ask (split i k list)) (noSplit (b .row) i k ∷ [])
+    (splitReply (splitOf (word (b .row)) i k) list)
+unfolding First NoneMet Says lent orNoSplit
+splits-found b i k list = go (splitOf (word (b .row)) i k) (split-law (word (b .row)) k i)
+  where
+    go : (o : Option (List ℕ)) → Splitting (word (b .row)) i k o
+        → Outcome b (ask (split i k list)) (noSplit (b .row) i k ∷ []) (splitReply o list)
+    go o (lacking p f) = rw p (under 9 (inl (f, refl)) refl)
+    go o (given ends p n) =
+        let c : length ends ≡ k = n .is .count in
+        rw (p, c) (fine (λ f. f ends (n .is), tt) (gave-accepted refl) (record { ends = ends; named = n; is = rw c }))
+
+-- the radius of the longest stretch at a centre
+pub radius-found : (b : Book) (c : ℕ) → (Outside 1 (2 * length (b .row) + 1) c → ⊥) → RadiusSays (b .row) c (gives (radiusAt (word (b .row)) (length (b .row)) c ∷ []))
+radius-found b c f =
+    let l = not-outside 1 (2 * length (b .row) + 1) c f in
+    let r = radius-at (word (b .row)) (length (b .row)) c (l .0) (l .1) in
+    record { len = r .0; longest = r .1; is = ap (λ x. reply (gave (x ∷ [])) []) (r .2) }
+
+-- the next shorter ending, or the want of one that has the centre
+pub next-found : (b : Book) (c : ℕ) → (Outside 1 (2 * length (b .row) + 1) c → ⊥)
+    → Outcome b (ask (next c)) (noEnding (b .row) c ∷ []) (reply (orNoEnding (nextAfter (word (b .row)) (length (b .row)) c)) [])
+unfolding First NoneMet Says lent
+next-found b c f = go (both? (decLt 0 (2 * n + 1 - c)) (ending? w n (2 * n + 1 - c)))
+  where
+    w : ℕ → ℕ
+    w = word (b .row)
+
+    n : ℕ
+    n = length (b .row)
+
+    go : Dec ((0 < 2 * n + 1 - c) × Ending w n (2 * n + 1 - c))
+        → Outcome b (ask (next c)) (noEnding (b .row) c ∷ []) (reply (orNoEnding (nextAfter w n c)) [])
+    go (yes a) =
+        let len : ℕ = 2 * n + 1 - c in
+        let e : centre n len ≡ c = omega (arith, a .0, a .1 .fits) in
+        let q : nextAfter w n c ≡ some (centre n (nextEnding w n len)) =
+        next-after w n c len (a .0) (a .1) e ∙ ap some (next-centre w n c len e (a .1 .fits)) in
+        rw q (fine (λ g. g len (omega (arith, a .0)) (a .1) e, tt) (gave-accepted refl)
+        (record { len = len; some = a .0; ending = a .1; at = e; shorter = _; next = next-ending w n len (a .0); is = refl }))
+    go (no g) =
+        let h : (len : ℕ) → 0 < len → Ending w n len → centre n len ≡ c → ⊥ =
+        λ len x y z. let q : 2 * n + 1 - c ≡ len = omega (arith, y .fits) in g (rw q (x, y)) in
+        rw (next-missing w n c h (not-outside 1 (2 * n + 1) c f .0)) (under 10 (inl (λ len x y z. h len (omega (arith, x)) y z, refl)) refl)
+
+-- the record of the split named, where it fits the output
+pub record-found : (b : Book) (i k : ℕ) (output : List ℕ)
+    → Outcome b (ask (fold i k output)) (noSplit (b .row) i k ∷ recordLonger (b .row) i k output ∷ [])
+    (recordReply (word (b .row)) i (splitOf (word (b .row)) i k) output)
+unfolding First NoneMet Says lent orNoSplit orTooLong
+record-found b i k output = go (splitOf (word (b .row)) i k) (split-law (word (b .row)) k i)
+  where
+    w : ℕ → ℕ
+    w = word (b .row)
+
+    go : (o : Option (List ℕ)) → Splitting w i k o
+        → Outcome b (ask (fold i k output)) (noSplit (b .row) i k ∷ recordLonger (b .row) i k output ∷ [])
+        (recordReply w i o output)
+    go o (lacking p f) = rw p (under 9 (inl (f, refl)) refl)
+    go o (given ends p n) = rw p (elim (decLt (length output) (length (recordOf w i ends))) [
+      | yes l ↦ rw (lt-leb _ _ l) (under 5 (inr (λ f. f ends (n .is), inl ((ends, n, omega (arith, l)), refl))) refl)
+      | no l ↦ rw (le-leb (length (recordOf w i ends)) (length output) (omega arith))
+          (fine (λ f. f ends (n .is), (λ m. omega (arith, l, m .2, ap (λ x. length (recordOf w i x)) (named-one n (m .1))), tt)) (gave-accepted refl) (record { ends = ends; named = n; is = refl }))
+    ])
+
+-- In the stored arrays
+
+-- a reply that refuses under these numbers only, and then keeps its list
+abbrev pub OnlyUnder : (list numbers : List ℕ) → Reply → Type 0
+OnlyUnder list numbers r = (number : ℕ) → r .said ≡ refused number → (r .list ≡ list) × List·Memᴰ number numbers
+
+pub gave-only : (l list after numbers : List ℕ) → OnlyUnder list numbers (reply (gave l) after)
+gave-only l list after numbers number e = absurd (gave-accepted refl number e)
+
+refused-only : (x : ℕ) (list numbers : List ℕ) → List·Memᴰ x numbers → OnlyUnder list numbers (reply (refused x) list)
+refused-only x list numbers h number e = let z : x ≡ number = cc in (refl, rw (← z) h)
+
+pub no-split-only : (o : Option (List ℕ)) (list numbers : List ℕ) (f : List ℕ → Reply) → ((ends : List ℕ) → OnlyUnder list (9 ∷ numbers) (f ends))
+    → OnlyUnder list (9 ∷ numbers) (orNoSplit o list f)
+unfolding orNoSplit
+no-split-only none list numbers f g = refused-only 9 list (9 ∷ numbers) (List·Memᴰ·head refl)
+no-split-only (some ends) list numbers f g = g ends
+
+pub no-ending-only : (o : Option ℕ) → OnlyUnder [] (10 ∷ []) (reply (orNoEnding o) [])
+no-ending-only none = refused-only 10 [] (10 ∷ []) (List·Memᴰ·head refl)
+no-ending-only (some c) = gave-only (c ∷ []) [] [] (10 ∷ [])
+
+pub too-long-only : (bytes output : List ℕ) → OnlyUnder output (9 ∷ 5 ∷ []) (orTooLong bytes output)
+unfolding orTooLong
+too-long-only bytes output = go (leb (length bytes) (length output))
+  where
+    go : (b : Bool) → OnlyUnder output (9 ∷ 5 ∷ []) (cond b (reply (gave (length bytes ∷ [])) (filled bytes output)) (reply (refused 5) output))
+    go true = gave-only (length bytes ∷ []) output (filled bytes output) (9 ∷ 5 ∷ [])
+    go false = refused-only 5 output (9 ∷ 5 ∷ []) (List·Memᴰ·tail (List·Memᴰ·head refl))

@@ -1,4 +1,0 @@
-//! The calls that are given no state.
-
-pub mod lift;
-pub mod show;

@@ -1,0 +1,37 @@
+//! Start: K, giving an empty draft.
+
+use crate::cells::{store_at_place, Centre, Numbers, Place, GATHERED, HEADS, ROWS};
+use crate::cells::{LENDS, NEXT, PREV, RADIUS};
+use crate::refusals::start_refusal;
+use crate::state::{Answer, State};
+
+/// The arrays of no letter: the iterator's are 0.
+fn clear_iterator(state: &mut State) {
+    state.letters.fill(0);
+    state.centres[RADIUS].fill(0);
+    state.centres[LENDS].fill(0);
+    state.centres[NEXT].fill(0);
+    state.centres[PREV].fill(0);
+    state.places[HEADS].fill(0);
+}
+
+/// The words of prefix 0: its row word has bit 0 alone, and so has its gathered word.
+fn clear_words(state: &mut State) {
+    state.places[ROWS].fill(0);
+    state.places[GATHERED].fill(0);
+    store_at_place(state.places, ROWS, Place(0), 1);
+    store_at_place(state.places, GATHERED, Place(0), 1);
+}
+
+/// A start with K on whatever is stored.
+pub fn start(state: &mut State, sections: usize) -> Answer<()> {
+    start_refusal(sections)?;
+    clear_iterator(state);
+    clear_words(state);
+    state.numbers = Numbers {
+        n: 0,
+        k: sections,
+        longest: Centre(1),
+    };
+    Ok(())
+}

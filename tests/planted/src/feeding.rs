@@ -1,4 +1,0 @@
-//! Start and feed.
-
-pub mod feed;
-pub mod start;
