@@ -61,7 +61,7 @@ static size_t visit(const uint16_t *next, uint16_t *rows, uint16_t *gathered, ui
 size_t APPEND(uint8_t *letters, uint16_t *radius, uint16_t *heads, uint16_t *lends, uint16_t *next, uint16_t *prev,
               uint16_t *rows, uint16_t *gathered, uint16_t *visits, size_t n, uint8_t k, size_t longest, uint8_t pick,
               size_t *answer) {
-    if (n >= MOST_PICKS || k < 1 || k > MOST_SECTIONS)
+    if (n >= BOARD_PICKS || k < 1 || k > BOARD_SECTIONS)
         return 0;
     unsigned row;
     size_t c = longest_ending(letters, radius, heads, lends, n, longest, pick);

@@ -1,18 +1,13 @@
 // Times ways to feed a draft of 2,048 picks with K = 8: the library's feed on lent arrays and its feeds by script, each
 // beside two in C, which store the same. A line for each draft: the nanoseconds for a pick, and the ratios of the
 // library to each in C. The last line has the largest ratios. Exit status 1, with what and where, where two differ.
+#include "clock.h"
+
 #include "ways.h"
 
 #include <stdio.h>
-#include <time.h>
 
 enum { ROUNDS = 20000 };
-
-static double now(void) {
-    struct timespec t;
-    clock_gettime(CLOCK_MONOTONIC, &t);
-    return t.tv_sec + t.tv_nsec * 1e-9;
-}
 
 // Seconds for one draft. Clearing is not timed.
 static double one_draft(const struct way *way, const struct draft *draft) {
@@ -55,7 +50,7 @@ static void time_draft(const struct draft *draft, double largest[FORMS][MAKES]) 
     printf("%-18s", draft->name);
     for (int form = 0; form < FORMS; form++) {
         for (int make = 0; make < MAKES; make++)
-            printf(" %7.2f", best[form][make] / MOST_PICKS * 1e9);
+            printf(" %7.2f", best[form][make] / BOARD_PICKS * 1e9);
         for (int make = PLAIN; make < MAKES; make++) {
             double ratio = best[form][LIBRARY] / best[form][make];
             printf(" %10.2f", ratio);
@@ -81,13 +76,13 @@ int main(void) {
     static struct draft drafts[DRAFTS];
     make_drafts(drafts);
     int wrong = 0;
-    for (int i = 0; i < DRAFTS; i++)
+    for (int i = 0; i < TIMED_DRAFTS; i++)
         wrong |= draft_differs(&drafts[i]);
     if (wrong)
         return 1;
     double largest[FORMS][MAKES] = {0};
     print_header();
-    for (int i = 0; i < DRAFTS; i++)
+    for (int i = 0; i < TIMED_DRAFTS; i++)
         time_draft(&drafts[i], largest);
     print_largest(largest);
     return 0;

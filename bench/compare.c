@@ -16,16 +16,17 @@ static int part_differs(const char *case_name, const char *part, const void *giv
 
 // The same for the stored state and the masks.
 static int state_differs(const char *case_name, const struct state *given, const struct state *plain) {
-    return part_differs(case_name, "letters", given->letters, plain->letters, sizeof plain->letters) ||
-           part_differs(case_name, "lanes by centre", given->centres, plain->centres, sizeof plain->centres) ||
-           part_differs(case_name, "lanes by place", given->places, plain->places, sizeof plain->places) ||
-           part_differs(case_name, "numbers", given->numbers, plain->numbers, sizeof plain->numbers) ||
+    const struct board *a = &given->board, *b = &plain->board;
+    return part_differs(case_name, "letters", a->letters, b->letters, sizeof b->letters) ||
+           part_differs(case_name, "lanes by centre", a->centres, b->centres, sizeof b->centres) ||
+           part_differs(case_name, "lanes by place", a->places, b->places, sizeof b->places) ||
+           part_differs(case_name, "numbers", a->numbers, b->numbers, sizeof b->numbers) ||
            part_differs(case_name, "masks", given->masks, plain->masks, sizeof plain->masks);
 }
 
 // The same for the visits and the answers of each pick; with one visit list, for the visits of the last.
 static int picks_differ(int form, const char *case_name, const struct state *given, const struct state *plain) {
-    size_t last = MOST_PICKS - 1, count = plain->answers[last][2];
+    size_t last = BOARD_PICKS - 1, count = plain->answers[last][2];
     if (form == ONE_LIST)
         return part_differs(case_name, "last visits", given->lists[0], plain->lists[last],
                             count * sizeof plain->lists[last][0]);
@@ -37,7 +38,7 @@ static int picks_differ(int form, const char *case_name, const struct state *giv
 static void feed_once(int form, int make, const struct draft *draft, struct state *s) {
     clear(s);
     ways[form][make].feed(s, draft);
-    for (size_t n = 0; form == LISTS && n < MOST_PICKS; n++)
+    for (size_t n = 0; form == LISTS && n < BOARD_PICKS; n++)
         s->masks[n] = s->answers[n][1];
 }
 

@@ -2,16 +2,7 @@
 #ifndef PLAIN_H
 #define PLAIN_H
 
-#include <stddef.h>
-#include <stdint.h>
-
-enum {
-    MOST_PICKS = 2048,
-    MOST_SECTIONS = 8,
-    MOST_VISITS = 19,
-    PLACES = MOST_PICKS + 1,      // entries by place, 0 to 2,048
-    CENTRES = 2 * MOST_PICKS + 2, // entries by centre in half picks, entry 0 unused
-};
+#include "board.h"
 
 // One pick more. 1 where n is below 2,048 and k is 1 to 8; else 0 and nothing is changed.
 // answer: the row word, the count of visits, the centre of the longest ending.

@@ -1,60 +1,61 @@
 // The ways to feed a draft.
 #include "ways.h"
+#include "plain.h"
 
 #include <string.h>
 
-// The lanes by centre and those by place, each under its number.
-enum { RADIUS, LENDS, NEXT, PREV };
-enum { HEADS, ROWS, GATHERED };
-
-// The library's functions. A slice is its pointer and its length.
-size_t feed_all(uint8_t *letters, uint16_t *centres, uint16_t *places, uint16_t *visits, size_t visits_len,
+// The loop of feeds in crate speed. A slice is its pointer and its length.
+size_t feed_all(uint8_t letters[BOARD_PICKS], uint16_t centres[BOARD_CENTRE_LANES][BOARD_CENTRES],
+                uint16_t places[BOARD_PLACE_LANES][BOARD_PLACES], uint16_t *visits, size_t visits_len,
                 const uint8_t *picks, size_t picks_len, uint8_t *masks, size_t masks_len);
-size_t drive(uint8_t *letters, uint16_t *centres, uint16_t *places, size_t *numbers, const uint8_t *script,
-             size_t script_len, const uint8_t *input, size_t input_len, uint16_t *lists, size_t lists_len,
-             uint8_t *bytes, size_t bytes_len, size_t *answers, size_t answers_len);
 
 void clear(struct state *s) {
+    struct board *board = &s->board;
     memset(s, 0, sizeof *s);
-    s->places[ROWS][0] = s->places[GATHERED][0] = 1;
-    s->numbers[1] = MOST_SECTIONS;
-    s->numbers[2] = 1;
+    board->places[BOARD_ROWS_LANE][0] = board->places[BOARD_GATHERED_LANE][0] = 1;
+    board->numbers[BOARD_K] = BOARD_SECTIONS;
+    board->numbers[BOARD_LONGEST] = 1;
 }
 
 // The library's feed on lent arrays, in a loop of its own, which stores no numbers.
 static void feed_lent(struct state *s, const struct draft *draft) {
-    s->numbers[2] = feed_all(s->letters, s->centres[0], s->places[0], s->lists[0], MOST_VISITS, draft->picks,
-                             MOST_PICKS, s->masks, MOST_PICKS);
-    s->numbers[0] = MOST_PICKS;
+    struct board *board = &s->board;
+    board->numbers[BOARD_LONGEST] = feed_all(board->letters, board->centres, board->places, s->lists[0], BOARD_VISITS,
+                                             draft->picks, BOARD_PICKS, s->masks, BOARD_PICKS);
+    board->numbers[BOARD_N] = BOARD_PICKS;
 }
 
-// The library's feeds by script.
+// The library's feeds by script. No input and no output are lent.
 static void feed_script(struct state *s, const struct draft *draft) {
-    drive(s->letters, s->centres[0], s->places[0], s->numbers, draft->calls[0], sizeof draft->calls, NULL, 0,
-          s->lists[0], MOST_PICKS * MOST_VISITS, NULL, 0, s->answers[0], MOST_PICKS * ANSWER);
+    struct board *board = &s->board;
+    drive(board->letters, board->centres, board->places, board->numbers, draft->calls[0], sizeof draft->calls,
+          draft->picks, 0, s->lists[0], BOARD_PICKS * BOARD_VISITS, s->masks, 0, s->answers[0],
+          BOARD_PICKS * BOARD_ANSWER_SIZE);
 }
 
 // One pick by an append in C.
-static inline void append_pick(append *append, struct state *s, size_t n, uint8_t pick, uint16_t *visits,
+static inline void append_pick(append *append, struct board *board, size_t n, uint8_t pick, uint16_t *visits,
                                size_t *answer) {
-    append(s->letters, s->centres[RADIUS], s->places[HEADS], s->centres[LENDS], s->centres[NEXT], s->centres[PREV],
-           s->places[ROWS], s->places[GATHERED], visits, n, MOST_SECTIONS, s->numbers[2], pick, answer);
-    s->numbers[0] = n + 1;
-    s->numbers[2] = answer[2];
+    append(board->letters, board->centres[BOARD_RADIUS_LANE], board->places[BOARD_HEADS_LANE],
+           board->centres[BOARD_LENDS_LANE], board->centres[BOARD_NEXT_LANE], board->centres[BOARD_PREV_LANE],
+           board->places[BOARD_ROWS_LANE], board->places[BOARD_GATHERED_LANE], visits, n, BOARD_SECTIONS,
+           board->numbers[BOARD_LONGEST], pick, answer);
+    board->numbers[BOARD_N] = n + 1;
+    board->numbers[BOARD_LONGEST] = answer[2];
 }
 
 static inline void append_one_list(append *append, struct state *s, const struct draft *draft) {
-    for (size_t n = 0; n < MOST_PICKS; n++) {
+    for (size_t n = 0; n < BOARD_PICKS; n++) {
         size_t answer[3];
-        append_pick(append, s, n, draft->picks[n], s->lists[0], answer);
+        append_pick(append, &s->board, n, draft->picks[n], s->lists[0], answer);
         s->masks[n] = answer[0] / 2;
     }
 }
 
 static inline void append_lists(append *append, struct state *s, const struct draft *draft) {
-    for (size_t n = 0; n < MOST_PICKS; n++) {
+    for (size_t n = 0; n < BOARD_PICKS; n++) {
         size_t answer[3];
-        append_pick(append, s, n, draft->picks[n], s->lists[n], answer);
+        append_pick(append, &s->board, n, draft->picks[n], s->lists[n], answer);
         s->answers[n][1] = answer[0] / 2;
         s->answers[n][2] = answer[1];
     }

@@ -4,7 +4,8 @@
 //! `plain` holds each definition literally on slices, slow and obvious.
 //! `fast` answers the same questions for drafts of 2,048 picks by tables.
 //! `calls` holds the ten calls with their refusals, and `book` the plain book.
-//! `draft` is the draft program as a function from bytes to bytes.
+//! `draft` is the draft program as a function from bytes to bytes, and `spoken` the
+//! console as one from a line to the lines that answer it.
 //! `samples` and `structured` make the drafts that tests are run on, and `full_drafts`
 //! names those of 2,048 picks.
 //! `scripted` names the calls with their arguments, and `library` makes them on the
@@ -24,6 +25,7 @@ mod memo;
 pub mod plain;
 pub mod samples;
 pub mod scripted;
+pub mod spoken;
 pub mod structured;
 
 /// "A draft has 0 to 2,048 picks."

@@ -1,4 +1,5 @@
-//! The proved board, by the C functions of its static library.
+//! The proved board, by the C functions of its static library, as the package `board`
+//! declares them.
 //!
 //! Places are in whole picks, centres in half picks. All that is lent stands between
 //! guard entries: letters, the lanes by centre, those by place, and every list and
@@ -7,11 +8,11 @@
 
 mod board;
 mod calling;
-mod functions;
 mod guarded;
 mod running;
 mod stateless;
 
-pub use board::{Board, CENTRES, GATHERED, HEADS, LENDS, NEXT, PLACES, PREV, RADIUS, ROWS};
+pub use self::board::Board;
+pub use ::board::{CENTRES, GATHERED, HEADS, LENDS, NEXT, PLACES, PREV, RADIUS, ROWS};
 pub use running::{Lent, ANSWER_NUMBERS, UNSET};
 pub use stateless::{lift, show};

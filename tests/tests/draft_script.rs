@@ -33,7 +33,7 @@ fn inputs() -> Vec<Vec<u8>> {
 /// the byte that ends the run.
 #[test]
 fn a_pipe_as_input() {
-    let folder = Folder::new("pipe");
+    let folder = Folder::new("draft", "pipe");
     for input in inputs() {
         let case = format!("input {:?}", String::from_utf8_lossy(&input));
         let (mut reader, mut writer) = pipe().expect("a pipe");
@@ -51,7 +51,7 @@ fn a_pipe_as_input() {
 /// On a file too, and it reads no byte past the one that ends the run.
 #[test]
 fn a_file_as_input() {
-    let folder = Folder::new("file");
+    let folder = Folder::new("draft", "file");
     let path = folder.path().join("input");
     for input in inputs() {
         let case = format!("input {:?}", String::from_utf8_lossy(&input));
@@ -75,7 +75,7 @@ fn output_of(mut command: Command) -> Output {
 /// error; neither needs the program.
 #[test]
 fn arguments() {
-    let folder = Folder::unbuilt("arguments");
+    let folder = Folder::unbuilt("draft", "arguments");
     let mut command = folder.command("draft");
     command.arg("--help");
     let help = output_of(command);
@@ -101,7 +101,7 @@ fn arguments() {
 /// Links to the script, to a link, and to its folder, absolute and relative.
 #[test]
 fn symbolic_links() {
-    let folder = Folder::new("links");
+    let folder = Folder::new("draft", "links");
     let elsewhere = folder.path().join("else where");
     create_dir(&elsewhere).expect("one more folder");
     for (link, target) in [

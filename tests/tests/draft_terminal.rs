@@ -49,7 +49,7 @@ fn at_picks(folder: &Folder) -> Terminal<'_> {
     terminal.key(b"8");
     terminal.key(ENTER);
     terminal.shows("8\n", "the first line");
-    terminal.await_keys();
+    terminal.await_keys(true);
     terminal
 }
 
@@ -64,7 +64,7 @@ fn behind_picks<'a>(folder: &'a Folder, picks: &[u8]) -> Terminal<'a> {
 /// No Enter between the picks, and none of them shown: only what answers them is.
 #[test]
 fn each_pick_is_answered_as_it_is_keyed() {
-    let folder = Folder::new("picks");
+    let folder = Folder::new("draft", "picks");
     let picks = [b"ABABABA".to_vec(), Generator(4).draft(2, 60)].concat();
     let mut terminal = at_picks(&folder);
     for (&pick, line) in picks.iter().zip(answers(&picks).split_inclusive('\n')) {
@@ -78,7 +78,7 @@ fn each_pick_is_answered_as_it_is_keyed() {
 /// Before any pick, and after some.
 #[test]
 fn enter_and_ctrl_d_end_the_picks() {
-    let folder = Folder::new("ends");
+    let folder = Folder::new("draft", "ends");
     for last in [ENTER, CTRL_D] {
         for picks in ["", "A", "ABA"] {
             let case = format!("{picks:?} and {last:?}");
@@ -92,11 +92,11 @@ fn enter_and_ctrl_d_end_the_picks() {
 /// The first line is keyed as any line is: shown, and corrected before Enter.
 #[test]
 fn the_first_line_can_be_corrected() {
-    let folder = Folder::new("corrected");
+    let folder = Folder::new("draft", "corrected");
     let mut terminal = at_first_line(&folder);
     terminal.key(&[b"9", BACKSPACE, b"8", ENTER].concat());
     terminal.shows("9\x08 \x088\n", "corrected");
-    terminal.await_keys();
+    terminal.await_keys(true);
     terminal.key(b"AAAA");
     terminal.shows(&answers(b"AAAA"), "corrected");
     terminal.key(ENTER);
@@ -106,7 +106,7 @@ fn the_first_line_can_be_corrected() {
 /// By Enter, or by Ctrl-D, which is keyed twice where the line is not empty.
 #[test]
 fn a_refused_first_line_ends_the_run() {
-    let folder = Folder::new("first_line");
+    let folder = Folder::new("draft", "first_line");
     for (keys, shown) in [
         ("9\r", "9\n"),
         ("88\r", "88\n"),
@@ -125,7 +125,7 @@ fn a_refused_first_line_ends_the_run() {
 /// With no further key. Backspace is a byte like any other there.
 #[test]
 fn a_refused_pick_ends_the_run_at_once() {
-    let folder = Folder::new("refused");
+    let folder = Folder::new("draft", "refused");
     for wrong in [b"a", b"?", b" ", BACKSPACE, b"\t", b"\x1b", b"\xff"] {
         let case = format!("{wrong:?}");
         let mut terminal = behind_picks(&folder, b"ABA");
@@ -138,7 +138,7 @@ fn a_refused_pick_ends_the_run_at_once() {
 /// shown, since the terminal is then in line mode: capital letters and an empty line.
 #[test]
 fn a_pasted_draft() {
-    let folder = Folder::new("pasted");
+    let folder = Folder::new("draft", "pasted");
     let picks = [repeated(b"AAB", MOST_PICKS), b"\n".to_vec()].concat();
     let mut terminal = at_first_line(&folder);
     terminal.key(&[b"8\n", picks.as_slice()].concat());
@@ -157,7 +157,7 @@ fn a_pasted_draft() {
 /// then, may show the last.
 #[test]
 fn a_pasted_draft_that_is_refused() {
-    let folder = Folder::new("pasted_refused");
+    let folder = Folder::new("draft", "pasted_refused");
     let too_long = repeated(b"AB", MOST_PICKS + 1);
     let wrong = [b"AB?".to_vec(), repeated(b"A", MOST_PICKS)].concat();
     for picks in [too_long, wrong] {
@@ -171,7 +171,7 @@ fn a_pasted_draft_that_is_refused() {
 /// A signal to the script alone, before the first line and in the picks.
 #[test]
 fn a_signal_ends_the_script() {
-    let folder = Folder::new("signals");
+    let folder = Folder::new("draft", "signals");
     for signal in [HANG_UP, INTERRUPT, QUIT, TERMINATE] {
         for begin in [at_first_line, at_picks] {
             let case = format!("signal {signal}");
@@ -185,7 +185,7 @@ fn a_signal_ends_the_script() {
 /// The keys that send a signal to all that the script runs.
 #[test]
 fn an_interrupting_key_ends_the_script() {
-    let folder = Folder::new("interrupts");
+    let folder = Folder::new("draft", "interrupts");
     for (key, signal, shown) in [(CTRL_C, INTERRUPT, "^C"), (CTRL_BACKSLASH, QUIT, "^\\")] {
         let mut terminal = at_first_line(&folder);
         terminal.key(key);
@@ -200,7 +200,7 @@ fn an_interrupting_key_ends_the_script() {
 /// The status is then a shell's of a killed command.
 #[test]
 fn a_killed_program_ends_the_script() {
-    let folder = Folder::new("killed");
+    let folder = Folder::new("draft", "killed");
     for begin in [at_first_line, at_picks] {
         let terminal = begin(&folder);
         send(KILL, terminal.program());
@@ -211,7 +211,7 @@ fn a_killed_program_ends_the_script() {
 /// A terminal that is closed.
 #[test]
 fn a_hang_up_ends_the_script() {
-    let folder = Folder::new("hang_up");
+    let folder = Folder::new("draft", "hang_up");
     for begin in [at_first_line, at_picks] {
         begin(&folder).hang_up("hang up");
     }
@@ -221,7 +221,7 @@ fn a_hang_up_ends_the_script() {
 /// keyed as if nothing had been.
 #[test]
 fn a_script_stopped_in_the_first_line_goes_on() {
-    let folder = Folder::new("stopped_first");
+    let folder = Folder::new("draft", "stopped_first");
     let mut terminal = at_first_line(&folder);
     terminal.key(CTRL_Z);
     assert_eq!(terminal.stopped("stopped"), "^Z");
@@ -229,7 +229,7 @@ fn a_script_stopped_in_the_first_line_goes_on() {
     terminal.shows("\n", "the shell's line");
     terminal.key(b"8\r");
     terminal.shows("8\n", "the first line");
-    terminal.await_keys();
+    terminal.await_keys(true);
     terminal.key(b"AB");
     terminal.shows(&answers(b"AB"), "the picks");
     terminal.key(ENTER);
@@ -239,13 +239,13 @@ fn a_script_stopped_in_the_first_line_goes_on() {
 /// The same in the picks, where each key is handed on again.
 #[test]
 fn a_script_stopped_in_the_picks_goes_on() {
-    let folder = Folder::new("stopped_picks");
+    let folder = Folder::new("draft", "stopped_picks");
     let mut terminal = behind_picks(&folder, b"A");
     terminal.key(CTRL_Z);
     assert_eq!(terminal.stopped("stopped"), "");
     terminal.key(ENTER);
     terminal.shows("\n", "the shell's line");
-    terminal.await_keys();
+    terminal.await_keys(true);
     terminal.key(b"B");
     terminal.shows("2,2,1,1\n", "the next pick");
     terminal.key(CTRL_D);
@@ -255,7 +255,7 @@ fn a_script_stopped_in_the_picks_goes_on() {
 /// As a shell ends a stopped job, which does not have the terminal then.
 #[test]
 fn a_stopped_script_ends() {
-    let folder = Folder::new("stopped_ended");
+    let folder = Folder::new("draft", "stopped_ended");
     let mut terminal = behind_picks(&folder, b"AB");
     terminal.key(CTRL_Z);
     assert_eq!(terminal.stopped("stopped"), "");
@@ -276,7 +276,7 @@ fn keys_typed_ahead_of_the_program() {
         ("9\rABA", "9\nABA", "9\n"),
         ("\x04", "", ""),
     ] {
-        let folder = Folder::unbuilt("ahead");
+        let folder = Folder::unbuilt("draft", "ahead");
         let mut terminal = Terminal::running(&folder, &["./draft"]);
         terminal.shows_at_last("the first time\n");
         terminal.key(keys.as_bytes());
@@ -290,12 +290,12 @@ fn keys_typed_ahead_of_the_program() {
 /// Where only the input is a terminal, the output is the program's own.
 #[test]
 fn output_that_is_no_terminal() {
-    let folder = Folder::new("output");
+    let folder = Folder::new("draft", "output");
     let command = ["sh", "-c", "exec ./draft >output"];
     let mut terminal = Terminal::running(&folder, &command);
     terminal.key(b"8\r");
     terminal.shows("8\n", "the first line");
-    terminal.await_keys();
+    terminal.await_keys(true);
     terminal.key(b"ABA\r");
     assert_eq!(terminal.end(0, "output"), "");
     let written = read_to_string(folder.path().join("output"));

@@ -2,27 +2,7 @@
 
 use super::guarded::Guarded;
 use crate::MOST_PICKS;
-
-/// Entries of a lane by place: 0 to 2,048.
-pub const PLACES: usize = MOST_PICKS + 1;
-
-/// Entries of a lane by centre: 1 to 2 × 2,048 + 1, and entry 0, which is not used.
-pub const CENTRES: usize = 2 * MOST_PICKS + 2;
-
-/// The lanes by centre: the radii, the lend lists' next centres, and the list of the
-/// endings' centres, forward and back.
-pub const RADIUS: usize = 0;
-pub const LENDS: usize = 1;
-pub const NEXT: usize = 2;
-pub const PREV: usize = 3;
-const CENTRE_LANES: usize = 4;
-
-/// The lanes by place: the lend lists' first centres, the row words, the gathered
-/// words.
-pub const HEADS: usize = 0;
-pub const ROWS: usize = 1;
-pub const GATHERED: usize = 2;
-const PLACE_LANES: usize = 3;
+use ::board::{CENTRES, CENTRE_LANES, GATHERED, NUMBERS, PLACES, PLACE_LANES, ROWS};
 
 /// The state that the library's calls are given, and what it keeps of a draft.
 #[derive(Clone, PartialEq, Eq)]
@@ -51,7 +31,7 @@ impl Board {
             letters: Guarded::new(MOST_PICKS),
             centres: Guarded::new(CENTRE_LANES * CENTRES),
             places: Guarded::new(PLACE_LANES * PLACES),
-            numbers: Guarded::new(3),
+            numbers: Guarded::new(NUMBERS),
         };
         board.letters_mut().fill_with(|| entry() as u8);
         for lane in board.lanes_mut() {

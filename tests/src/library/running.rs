@@ -1,10 +1,10 @@
 //! Scripts of calls.
 
 use super::board::Board;
-use super::functions::drive;
 use super::guarded::Guarded;
 use crate::calls::Refusal;
 use crate::scripted::{script, Call, Reply, VALUES};
+use ::board::functions::drive;
 
 /// Numbers that the library writes for each call: 0 and the values, or 1, the refusal
 /// number and zeros.

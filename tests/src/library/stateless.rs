@@ -1,9 +1,9 @@
 //! The calls that are given no state.
 
-use super::functions::{drive_lift, drive_show};
 use super::guarded::Guarded;
 use super::running::UNSET;
 use crate::calls::{Answer, Refusal};
+use ::board::functions::{drive_lift, drive_show};
 
 /// The lift of a letter.
 pub fn lift(letter: u8) -> Answer<usize> {

@@ -26,7 +26,8 @@ pub const TERMINATE: c_int = 15;
 pub const CONTINUE: c_int = 18;
 pub const STOP_KEY: c_int = 20;
 
-/// Line mode and echo, in the local settings.
+/// Keys that send signals, line mode and echo, in the local settings.
+const SIGNAL_KEYS: u32 = 0o1;
 const LINES: u32 = 0o2;
 const ECHO: u32 = 0o10;
 
@@ -101,9 +102,13 @@ impl Settings {
         settings
     }
 
-    /// The same settings, but that each key is handed on at once and not shown.
-    pub fn by_keys(mut self) -> Settings {
+    /// The same settings, but that each key is handed on at once and not shown, and that
+    /// keys still send signals, or do not.
+    pub fn by_keys(mut self, signals: bool) -> Settings {
         self.local &= !(LINES | ECHO);
+        if !signals {
+            self.local &= !SIGNAL_KEYS;
+        }
         self
     }
 }

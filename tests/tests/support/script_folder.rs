@@ -1,58 +1,74 @@
-//! The script `draft` in a folder of its own, beside the executable and no source, so
-//! that nothing is proved or built, however old the executable is.
+//! The script `draft` or `board` in a folder of its own, beside its executable and no
+//! source, so that nothing is proved or built, however old the executable is.
 
+#[path = "console_executable.rs"]
+mod console_executable;
 #[path = "executable.rs"]
 mod executable;
 
-use executable::program;
 use std::env;
 use std::fs::{create_dir_all, remove_dir_all, rename, write};
 use std::os::unix::fs::symlink;
 use std::path::{Path, PathBuf};
 use std::process::{id, Command};
 
-/// Stands in for `rt check draft`: ends once the executable is there, or fails at last.
-const CHECK: &str = r#"
-    for look in $(seq 3000); do [ -e target/bin/draft ] && exit; sleep 0.01; done
-    exit 1
+/// Stands in for each step of a build: ends once the executable is there, and then has
+/// made the library and what cargo makes, or fails at last.
+const STEP: &str = r#"
+    for look in $(seq 3000); do [ -e target/bin/PROGRAM ] && break; sleep 0.01; done
+    mkdir -p target/staticlib target/console/release
+    : >target/staticlib/libdrive.a
+    cp target/bin/PROGRAM target/console/release
 "#;
 
-/// The folder, which is removed when its test ends.
+/// The folder, which is removed when its test ends, and the script's name.
 pub struct Folder {
     path: PathBuf,
+    script: &'static str,
 }
 
 impl Folder {
     /// A folder with the script and the executable.
-    pub fn new(name: &str) -> Folder {
-        let folder = Folder::unbuilt(name);
+    pub fn new(script: &'static str, name: &str) -> Folder {
+        let folder = Folder::unbuilt(script, name);
         folder.build();
         folder
     }
 
-    /// A folder with the script alone. The `rt` that it calls there is the shell, which
-    /// is given `check` to run.
-    pub fn unbuilt(name: &str) -> Folder {
-        let folder = format!("draft_{name}_{}", id());
+    /// A folder with the script alone. The `rt` and the `cargo` that it calls there are
+    /// the shell, which is given a stand-in of the step to run.
+    pub fn unbuilt(script: &'static str, name: &str) -> Folder {
+        let folder = format!("{script}_{name}_{}", id());
         let path = Path::new(env!("CARGO_TARGET_TMPDIR")).join(folder);
         remove_dir_all(&path).ok();
-        for part in ["crates", "bin", "temporary"] {
+        for part in ["crates", "rust", "console", "bin", "temporary"] {
             create_dir_all(path.join(part)).expect("a folder to run in");
         }
         write(path.join("crates.txt"), "").expect("room for a file");
-        write(path.join("check"), CHECK).expect("room for a file");
-        symlink("/bin/sh", path.join("bin/rt")).expect("room for a link");
-        copy(Path::new("../draft"), &path.join("draft"));
-        Folder { path }
+        for step in ["check", "staticlib", "build"] {
+            let text = STEP.replace("PROGRAM", program_of(script));
+            write(path.join(step), text).expect("room for a file");
+        }
+        for tool in ["rt", "cargo"] {
+            symlink("/bin/sh", path.join("bin").join(tool)).expect("room for a link");
+        }
+        copy(&Path::new("..").join(script), &path.join(script));
+        Folder { path, script }
     }
 
     /// Puts the executable in its place.
     pub fn build(&self) {
         let made = self.path.join("made");
-        copy(&program(), &made);
-        let place = self.path.join("target/bin");
-        create_dir_all(&place).expect("a folder for it");
-        rename(made, place.join("draft")).expect("the executable in its place");
+        copy(&executable_of(self.script), &made);
+        let place = self.program();
+        let folder = place.parent().expect("a folder for it");
+        create_dir_all(folder).expect("a folder for it");
+        rename(made, place).expect("the executable in its place");
+    }
+
+    /// The place of the executable.
+    pub fn program(&self) -> PathBuf {
+        self.path.join("target/bin").join(program_of(self.script))
     }
 
     /// The folder itself.
@@ -79,6 +95,22 @@ impl Folder {
 impl Drop for Folder {
     fn drop(&mut self) {
         remove_dir_all(&self.path).ok();
+    }
+}
+
+/// The name of the program that the script runs.
+fn program_of(script: &str) -> &'static str {
+    match script {
+        "draft" => "draft",
+        _ => "console",
+    }
+}
+
+/// The executable that was built for the script.
+fn executable_of(script: &str) -> PathBuf {
+    match script {
+        "draft" => executable::program(),
+        _ => console_executable::program(),
     }
 }
 

@@ -12,13 +12,14 @@ use std::time::{Duration, Instant};
 const LIMIT: Duration = Duration::from_secs(30);
 
 /// The shell of the terminal, as a user's: it runs the command as a job of its own and
-/// shows its status when it has ended or is stopped. On Enter a stopped one goes on.
+/// shows its status when it has ended or is stopped. On Enter a stopped one goes on; a
+/// line that is not empty is run instead.
 const SHELL: &str = r#"
     set -m
     trap : INT
     exec 3>&2 2>/dev/null
     (exec "$@" 2>&3 3>&-)
-    while echo "status $?"; read -r go; do fg >/dev/null; done
+    while echo "status $?"; read -r line; do eval "${line:-fg >/dev/null}"; done
 "#;
 
 /// A running command: its folder, its shell, the two sides of the terminal, and the
@@ -120,7 +121,7 @@ impl Terminal<'_> {
 
     /// What is shown next, byte by byte until there is enough. Lines end with bytes 13
     /// and 10 there, and with byte 10 here.
-    fn read_until(&mut self, case: &str, enough: impl Fn(&str) -> bool) -> String {
+    pub fn read_until(&mut self, case: &str, enough: impl Fn(&str) -> bool) -> String {
         let near = self.near.as_mut().expect("a terminal to look at");
         let begun = Instant::now();
         let mut shown = String::new();
@@ -142,9 +143,10 @@ impl Terminal<'_> {
         Settings::of(self.far.as_ref().expect("an open terminal"))
     }
 
-    /// Waits until each key is handed on and not shown, and nothing else is changed.
-    pub fn await_keys(&self) {
-        let by_keys = self.before.by_keys();
+    /// Waits until each key is handed on and not shown, and nothing else is changed; keys
+    /// still send signals, or do not.
+    pub fn await_keys(&self, signals: bool) {
+        let by_keys = self.before.by_keys(signals);
         await_that("each key is handed on", || self.settings() == by_keys);
     }
 
@@ -155,13 +157,12 @@ impl Terminal<'_> {
         command.expect("the command's process")
     }
 
-    /// The draft program's process.
+    /// The process of the script's program.
     pub fn program(&self) -> i32 {
-        let path = self.folder.path().join("target/bin/draft");
-        let path = path.canonicalize().ok();
+        let path = self.folder.program().canonicalize().ok();
         let runs_it = |id: &i32| read_link(format!("/proc/{id}/exe")).ok() == path;
         let program = self.job().find(runs_it);
-        program.expect("the draft program's process")
+        program.expect("the program's process")
     }
 
     /// The processes of the terminal's session but the shell.

@@ -1,8 +1,9 @@
-//! The library's C functions. A slice is its pointer and its length.
+//! The static library's C functions, as they are. A slice is its pointer, which is not null,
+//! and its length; none may overlap another.
 
 extern "C" {
     /// Makes the calls of a script one after the other on the state, which is the
-    /// letters, four lanes by centre, three lanes by place and the three numbers n, K
+    /// letters, the lanes by centre, the lanes by place and the three numbers n, K
     /// and the centre of the longest ending. Gives the number of calls made.
     pub fn drive(
         letters: *mut u8,

@@ -1,0 +1,307 @@
+// The board's calls for C11 and C++: a function for each, and `drive` for many at once.
+//
+// Nothing is allocated, and nothing is kept but in the state that a call is given. A state may hold any bytes: a call
+// ends, within what it is lent, and tells by its number what is wrong. What is refused changes nothing. docs/HOSTS.md
+// says how to link this, and what may be called from where.
+#ifndef BOARD_H
+#define BOARD_H
+
+#include <stddef.h>
+#include <stdint.h>
+
+#ifdef __cplusplus
+#define BOARD_ASSERT(fact) static_assert(fact, #fact)
+extern "C" {
+#else
+#define BOARD_ASSERT(fact) _Static_assert(fact, #fact)
+#endif
+
+enum {
+    BOARD_PICKS = 2048,    // the most picks of a draft
+    BOARD_SECTIONS = 8,    // the most sections that are asked for
+    BOARD_VISITS = 19,     // the fewest entries of a visit list
+    BOARD_RECORD = 1088,   // bytes that hold any folded record
+    BOARD_CENTRES = 4098,  // entries of a lane by centre: 1 to 2 x 2,048 + 1, and entry 0, which is not used
+    BOARD_PLACES = 2049,   // entries of a lane by place: 0 to 2,048
+    BOARD_CALL_SIZE = 6,   // bytes of a call in a script
+    BOARD_ANSWER_SIZE = 4, // numbers of an answer to it
+    BOARD_NOT_MADE = 255,  // in place of a refusal's number: the library that is linked has no such call
+};
+
+// The lanes by centre: radii, lend lists, the list of the endings' centres forward and back.
+enum { BOARD_RADIUS_LANE, BOARD_LENDS_LANE, BOARD_NEXT_LANE, BOARD_PREV_LANE, BOARD_CENTRE_LANES };
+
+// The lanes by place: heads of the lend lists, row words, gathered words.
+enum { BOARD_HEADS_LANE, BOARD_ROWS_LANE, BOARD_GATHERED_LANE, BOARD_PLACE_LANES };
+
+// The numbers of the state: the count of picks, K, the centre of the longest ending.
+enum { BOARD_N, BOARD_K, BOARD_LONGEST, BOARD_NUMBERS };
+
+// The calls by their numbers in a script.
+enum {
+    BOARD_START_CALL,
+    BOARD_FEED_CALL,
+    BOARD_SPLIT_CALL,
+    BOARD_LONGEST_CALL,
+    BOARD_MASK_CALL,
+    BOARD_RADIUS_CALL,
+    BOARD_NEXT_CALL,
+    BOARD_RECORD_CALL,
+    BOARD_CALLS
+};
+
+// The stored state. One of zeros is no draft yet: each call but a start is refused with 7.
+struct board {
+    uint8_t letters[BOARD_PICKS];
+    uint16_t centres[BOARD_CENTRE_LANES][BOARD_CENTRES];
+    uint16_t places[BOARD_PLACE_LANES][BOARD_PLACES];
+    size_t numbers[BOARD_NUMBERS];
+};
+
+BOARD_ASSERT(sizeof(size_t) == 8);
+BOARD_ASSERT(offsetof(struct board, letters) == 0);
+BOARD_ASSERT(offsetof(struct board, centres) == 2048);
+BOARD_ASSERT(offsetof(struct board, places) == 34832);
+BOARD_ASSERT(offsetof(struct board, numbers) == 47128);
+BOARD_ASSERT(sizeof(struct board) == 47152);
+
+// The library's functions. A slice is its pointer, which is not null, and its length; none may overlap another.
+
+// Makes the calls of the script, one after the other, and gives their number.
+size_t drive(uint8_t letters[BOARD_PICKS], uint16_t centres[BOARD_CENTRE_LANES][BOARD_CENTRES],
+             uint16_t places[BOARD_PLACE_LANES][BOARD_PLACES], size_t numbers[BOARD_NUMBERS], const uint8_t *script,
+             size_t script_len, const uint8_t *input, size_t input_len, uint16_t *lists, size_t lists_len,
+             uint8_t *bytes, size_t bytes_len, size_t *answers, size_t answers_len);
+
+// Section s of the letters, as far as it fits the part. The answer: the refusal or 0, and the section's length.
+size_t drive_show(const uint8_t *letters, size_t letters_len, const uint16_t *ends, size_t ends_len, size_t s,
+                  uint8_t *part, size_t part_len, size_t answer[2]);
+
+// The lift of a letter. The answer: 0 and the lift, or 1 and the refusal.
+size_t drive_lift(uint8_t letter, size_t answer[2]);
+
+// A place in whole picks, and a centre in half picks: one never stands for the other.
+struct board_place {
+    size_t picks;
+};
+struct board_centre {
+    size_t half_picks;
+};
+
+// The place behind the first i picks.
+static inline struct board_place board_prefix(size_t i) {
+    struct board_place place = {i};
+    return place;
+}
+
+static inline struct board_centre board_centre_at(size_t half_picks) {
+    struct board_centre centre = {half_picks};
+    return centre;
+}
+
+// The answers. In each the number is 0, or that of the refusal or BOARD_NOT_MADE, and then all values are 0.
+struct board_start_answer {
+    size_t number;
+};
+struct board_feed_answer {
+    size_t number;
+    uint8_t mask;
+    size_t visits;
+};
+struct board_mask_answer {
+    size_t number;
+    uint8_t mask;
+};
+struct board_radius_answer {
+    size_t number;
+    size_t radius;
+};
+struct board_centre_answer {
+    size_t number;
+    struct board_centre centre;
+};
+struct board_split_answer {
+    size_t number;
+    size_t turns;
+};
+struct board_record_answer {
+    size_t number;
+    size_t bytes;
+};
+struct board_show_answer {
+    size_t number;
+    const uint8_t *part; // of the letters that were lent
+    size_t len;
+};
+struct board_lift_answer {
+    size_t number;
+    uint8_t lift;
+};
+
+// Scripts
+
+// The number, or the largest that the field can hold: it is never cut, so what is out of range stays so.
+static inline size_t board_field(size_t number, size_t largest) { return number < largest ? number : largest; }
+
+// Writes a call into a script: its number, then b of one byte, and x and m of two, the low one first.
+static inline void board_write_call(uint8_t call[BOARD_CALL_SIZE], size_t number, size_t b, size_t x, size_t m) {
+    x = board_field(x, UINT16_MAX);
+    m = board_field(m, UINT16_MAX);
+    call[0] = (uint8_t)board_field(number, UINT8_MAX);
+    call[1] = (uint8_t)board_field(b, UINT8_MAX);
+    call[2] = (uint8_t)(x & 255);
+    call[3] = (uint8_t)(x >> 8);
+    call[4] = (uint8_t)(m & 255);
+    call[5] = (uint8_t)(m >> 8);
+}
+
+// What is lent to a call beside the state: a list, an output or nothing. A null pointer lends nothing, whatever is said
+// of its size.
+struct board_lent {
+    uint16_t *list;
+    size_t entries;
+    uint8_t *output;
+    size_t bytes;
+};
+
+// What one call answered: 0 or the number, and the values.
+struct board_reply {
+    size_t number;
+    size_t first;
+    size_t second;
+};
+
+// A script of one call, with all that it is lent.
+static inline struct board_reply board_make(struct board *board, size_t call_number, size_t b, size_t x,
+                                            struct board_lent lent) {
+    uint8_t call[BOARD_CALL_SIZE], no_byte = 0;
+    uint16_t no_entry = 0;
+    size_t answer[BOARD_ANSWER_SIZE] = {1, BOARD_NOT_MADE, 0, 0};
+    struct board_reply reply = {0, 0, 0};
+    size_t entries = lent.list ? lent.entries : 0, bytes = lent.output ? lent.bytes : 0;
+    board_write_call(call, call_number, b, x, entries ? entries : bytes);
+    drive(board->letters, board->centres, board->places, board->numbers, call, sizeof call, &no_byte, 0,
+          lent.list ? lent.list : &no_entry, entries, lent.output ? lent.output : &no_byte, bytes, answer,
+          BOARD_ANSWER_SIZE);
+    if (answer[0]) {
+        reply.number = answer[1];
+    } else {
+        reply.first = answer[1];
+        reply.second = answer[2];
+    }
+    return reply;
+}
+
+static inline struct board_lent board_nothing(void) {
+    struct board_lent lent = {NULL, 0, NULL, 0};
+    return lent;
+}
+
+static inline struct board_lent board_list(uint16_t *list, size_t entries) {
+    struct board_lent lent = {list, entries, NULL, 0};
+    return lent;
+}
+
+static inline struct board_lent board_output(uint8_t *output, size_t bytes) {
+    struct board_lent lent = {NULL, 0, output, bytes};
+    return lent;
+}
+
+// The calls that write the state
+
+// Start: an empty draft with K, whatever was stored.
+static inline struct board_start_answer board_start(struct board *board, size_t k) {
+    struct board_reply reply = board_make(board, BOARD_START_CALL, k, 0, board_nothing());
+    struct board_start_answer answer = {reply.number};
+    return answer;
+}
+
+// Feed: one pick more. The lengths of the endings visited fill the front of the list.
+static inline struct board_feed_answer board_feed(struct board *board, size_t pick, uint16_t *visits, size_t entries) {
+    struct board_reply reply = board_make(board, BOARD_FEED_CALL, pick, 0, board_list(visits, entries));
+    struct board_feed_answer answer = {reply.number, (uint8_t)reply.first, reply.second};
+    return answer;
+}
+
+// The calls that only read it
+
+// The mask of a prefix: bit k - 1 is set where it is k mirrored sections.
+static inline struct board_mask_answer board_mask(struct board *board, struct board_place prefix) {
+    struct board_reply reply = board_make(board, BOARD_MASK_CALL, 0, prefix.picks, board_nothing());
+    struct board_mask_answer answer = {reply.number, (uint8_t)reply.first};
+    return answer;
+}
+
+// The radius of the longest mirrored stretch at a centre.
+static inline struct board_radius_answer board_radius(struct board *board, struct board_centre centre) {
+    struct board_reply reply = board_make(board, BOARD_RADIUS_CALL, 0, centre.half_picks, board_nothing());
+    struct board_radius_answer answer = {reply.number, reply.first};
+    return answer;
+}
+
+// The centre of the longest mirrored ending.
+static inline struct board_centre_answer board_longest(struct board *board) {
+    struct board_reply reply = board_make(board, BOARD_LONGEST_CALL, 0, 0, board_nothing());
+    struct board_centre_answer answer = {reply.number, {reply.first}};
+    return answer;
+}
+
+// The centre of the next shorter ending after the one at a centre.
+static inline struct board_centre_answer board_next(struct board *board, struct board_centre centre) {
+    struct board_reply reply = board_make(board, BOARD_NEXT_CALL, 0, centre.half_picks, board_nothing());
+    struct board_centre_answer answer = {reply.number, {reply.first}};
+    return answer;
+}
+
+// Split a prefix into k sections: the last pick numbers of the sections fill the first k entries of the list.
+static inline struct board_split_answer board_split(struct board *board, struct board_place prefix, size_t k,
+                                                    uint16_t *ends, size_t entries) {
+    struct board_reply reply = board_make(board, BOARD_SPLIT_CALL, k, prefix.picks, board_list(ends, entries));
+    struct board_split_answer answer = {reply.number, reply.first};
+    return answer;
+}
+
+// The folded record of a prefix in k sections, into the front of the output.
+static inline struct board_record_answer board_record(struct board *board, struct board_place prefix, size_t k,
+                                                      uint8_t *output, size_t bytes) {
+    struct board_reply reply = board_make(board, BOARD_RECORD_CALL, k, prefix.picks, board_output(output, bytes));
+    struct board_record_answer answer = {reply.number, reply.first};
+    return answer;
+}
+
+// The calls that are given no state
+
+// Show section s, counted from 1, of letters that the ends divide: that part of the letters themselves, an empty one
+// where it is refused.
+static inline struct board_show_answer board_show(const uint8_t *letters, size_t len, const uint16_t *ends,
+                                                  size_t count, size_t s) {
+    uint8_t no_byte = 0;
+    uint16_t no_end = 0;
+    size_t answer[2] = {0};
+    struct board_show_answer shown = {0, letters, 0};
+    drive_show(letters ? letters : &no_byte, letters ? len : 0, ends ? ends : &no_end, ends ? count : 0, s, &no_byte, 0,
+               answer);
+    shown.number = answer[0];
+    if (!answer[0]) {
+        shown.part = letters + (ends[s - 1] - answer[1]);
+        shown.len = answer[1];
+    }
+    return shown;
+}
+
+// The lift of a letter: harness h is bit h - 1.
+static inline struct board_lift_answer board_lift(size_t letter) {
+    size_t answer[2] = {0};
+    struct board_lift_answer lift = {0, 0};
+    drive_lift((uint8_t)board_field(letter, UINT8_MAX), answer);
+    if (answer[0])
+        lift.number = answer[1];
+    else
+        lift.lift = (uint8_t)answer[1];
+    return lift;
+}
+
+#ifdef __cplusplus
+}
+#endif
+#endif

@@ -1,0 +1,265 @@
+//! The calls on a state.
+
+use crate::functions::drive;
+use crate::refusal::Refusal;
+use crate::script::{
+    call, values, ANSWER_NUMBERS, CALL_BYTES, FEED, LONGEST_ENDING, MASK, NEXT_SHORTER, RADIUS_AT,
+    RECORD, SPLIT, START,
+};
+use crate::state::{Centre, Place, State};
+
+/// A board: the stored state, and the calls on it.
+///
+/// Every call takes `&mut self`: start and feed change the state, and the library writes the
+/// three numbers back also where it changes nothing.
+#[derive(Clone, Debug, PartialEq, Eq)]
+pub struct Board {
+    /// What is stored. Any numbers may be written here.
+    pub state: State,
+}
+
+/// What an accepted feed gives.
+#[derive(Clone, Copy, Debug, PartialEq, Eq)]
+pub struct Taken {
+    /// Bit k - 1 is set where the draft so far is k sections.
+    pub mask: u8,
+    /// How many endings were visited: their lengths are the first entries of the visit list.
+    pub visits: usize,
+}
+
+impl Default for Board {
+    fn default() -> Board {
+        Board::new()
+    }
+}
+
+impl Board {
+    /// A board with nothing stored: each call but a start is refused with 7.
+    ///
+    /// ```
+    /// let mut board = board::Board::new();
+    /// assert_eq!(board.longest().unwrap_err().number(), 7);
+    /// ```
+    pub const fn new() -> Board {
+        Board {
+            state: State::ZEROS,
+        }
+    }
+
+    /// Start: an empty draft with K, whatever was stored. Refused with 1.
+    ///
+    /// ```
+    /// let mut board = board::Board::new();
+    /// assert_eq!(board.start(8), Ok(()));
+    /// assert_eq!(board.start(9).unwrap_err().number(), 1);
+    /// assert_eq!(board.start(256 + 8).unwrap_err().number(), 1);
+    /// ```
+    pub fn start(&mut self, k: usize) -> Result<(), Refusal> {
+        self.ask(START, k, 0)?;
+        Ok(())
+    }
+
+    /// Feed: one pick more. The lengths of the endings visited, longest first, fill the front of
+    /// the list. Refused with 7, 2, 3 or 8.
+    ///
+    /// ```
+    /// # use board::{Board, Taken, VISITS};
+    /// # let mut board = Board::new();
+    /// # board.start(8)?;
+    /// let mut visits = [0; VISITS];
+    /// board.feed(b'A', &mut visits)?;
+    /// board.feed(b'B', &mut visits)?;
+    /// let taken = board.feed(b'A', &mut visits)?;
+    /// assert_eq!(taken, Taken { mask: 0b101, visits: 2 });
+    /// assert_eq!(visits[..2], [3, 1]);
+    /// assert_eq!(board.feed(b'a', &mut visits).unwrap_err().number(), 2);
+    /// assert_eq!(board.feed(b'A', &mut visits[1..]).unwrap_err().number(), 3);
+    /// # Ok::<(), board::Refusal>(())
+    /// ```
+    pub fn feed(&mut self, pick: u8, visits: &mut [u16]) -> Result<Taken, Refusal> {
+        let call = call(FEED, pick.into(), 0, visits.len());
+        let [mask, visits, _] = self.make(call, visits, &mut [])?;
+        Ok(Taken {
+            mask: mask as u8,
+            visits,
+        })
+    }
+
+    /// The mask of a prefix: bit k - 1 is set where it is k sections. Refused with 7 or 4.
+    ///
+    /// ```
+    /// # use board::{Board, Place, VISITS};
+    /// # let mut board = Board::new();
+    /// # board.start(8)?;
+    /// # for &pick in b"ABA" {
+    /// #     board.feed(pick, &mut [0; VISITS])?;
+    /// # }
+    /// assert_eq!(board.mask(Place(2)), Ok(0b10));
+    /// assert_eq!(board.mask(Place(4)).unwrap_err().number(), 4);
+    /// # Ok::<(), board::Refusal>(())
+    /// ```
+    pub fn mask(&mut self, prefix: Place) -> Result<u8, Refusal> {
+        let [mask, ..] = self.ask(MASK, 0, prefix.0)?;
+        Ok(mask as u8)
+    }
+
+    /// The radius of the longest mirrored stretch at a centre. Refused with 7 or 4.
+    ///
+    /// ```
+    /// # use board::{Board, Centre, VISITS};
+    /// # let mut board = Board::new();
+    /// # board.start(8)?;
+    /// # for &pick in b"AABACABAA" {
+    /// #     board.feed(pick, &mut [0; VISITS])?;
+    /// # }
+    /// // The draft is AABACABAA.
+    /// assert_eq!(board.radius(Centre(10)), Ok(4));
+    /// assert_eq!(board.radius(Centre(3)), Ok(1));
+    /// # Ok::<(), board::Refusal>(())
+    /// ```
+    pub fn radius(&mut self, centre: Centre) -> Result<usize, Refusal> {
+        let [radius, ..] = self.ask(RADIUS_AT, 0, centre.0)?;
+        Ok(radius)
+    }
+
+    /// The centre of the longest ending. Refused with 7.
+    ///
+    /// ```
+    /// # use board::{Board, Centre};
+    /// let mut board = Board::new();
+    /// board.start(8)?;
+    /// assert_eq!(board.longest(), Ok(Centre(1)));
+    /// # Ok::<(), board::Refusal>(())
+    /// ```
+    pub fn longest(&mut self) -> Result<Centre, Refusal> {
+        let [centre, ..] = self.ask(LONGEST_ENDING, 0, 0)?;
+        Ok(Centre(centre))
+    }
+
+    /// The centre of the next shorter ending after the one at a centre. Refused with 7, 4 or 10.
+    ///
+    /// ```
+    /// # use board::{Board, Centre, VISITS};
+    /// # let mut board = Board::new();
+    /// # board.start(8)?;
+    /// # for &pick in b"ABA" {
+    /// #     board.feed(pick, &mut [0; VISITS])?;
+    /// # }
+    /// // The draft is ABA: itself, its last pick and the empty ending.
+    /// assert_eq!(board.longest(), Ok(Centre(4)));
+    /// assert_eq!(board.next(Centre(4)), Ok(Centre(6)));
+    /// assert_eq!(board.next(Centre(6)), Ok(Centre(7)));
+    /// assert_eq!(board.next(Centre(7)).unwrap_err().number(), 10);
+    /// # Ok::<(), board::Refusal>(())
+    /// ```
+    pub fn next(&mut self, centre: Centre) -> Result<Centre, Refusal> {
+        let [centre, ..] = self.ask(NEXT_SHORTER, 0, centre.0)?;
+        Ok(Centre(centre))
+    }
+
+    /// Split a prefix into k sections: the number of the last pick of each, rising, fills the first
+    /// k entries of the list. Gives the turn count. Refused with 7, 1, 3, 4 or 9.
+    ///
+    /// ```
+    /// # use board::{Board, Place, VISITS};
+    /// # let mut board = Board::new();
+    /// # board.start(8)?;
+    /// # for &pick in b"AAA" {
+    /// #     board.feed(pick, &mut [0; VISITS])?;
+    /// # }
+    /// // The draft is AAA.
+    /// let mut ends = [0; 2];
+    /// assert_eq!(board.split(Place(3), 2, &mut ends), Ok(2));
+    /// assert_eq!(ends, [1, 3]);
+    /// assert_eq!(board.split(Place(1), 2, &mut ends).unwrap_err().number(), 9);
+    /// # Ok::<(), board::Refusal>(())
+    /// ```
+    pub fn split(&mut self, prefix: Place, k: usize, ends: &mut [u16]) -> Result<usize, Refusal> {
+        let call = call(SPLIT, k, prefix.0, ends.len());
+        let [turns, ..] = self.make(call, ends, &mut [])?;
+        Ok(turns)
+    }
+
+    /// The folded record of a prefix in k sections, into the front of the output. Gives its count
+    /// of bytes. Refused with 7, 1, 4, 9 or 5.
+    ///
+    /// ```
+    /// # use board::{Board, Place, VISITS};
+    /// # let mut board = Board::new();
+    /// # board.start(8)?;
+    /// # for &pick in b"ABACDDC" {
+    /// #     board.feed(pick, &mut [0; VISITS])?;
+    /// # }
+    /// // The draft is ABACDDC.
+    /// let mut output = [0; 14];
+    /// assert_eq!(board.record(Place(7), 2, &mut output), Ok(14));
+    /// assert_eq!(&output, b"7,2,3,AB,4,CD\n");
+    /// assert_eq!(board.record(Place(7), 2, &mut output[1..]).unwrap_err().number(), 5);
+    /// # Ok::<(), board::Refusal>(())
+    /// ```
+    pub fn record(&mut self, prefix: Place, k: usize, output: &mut [u8]) -> Result<usize, Refusal> {
+        let call = call(RECORD, k, prefix.0, output.len());
+        let [bytes, ..] = self.make(call, &mut [], output)?;
+        Ok(bytes)
+    }
+
+    /// Many calls: those of the script, one after the other, as far as script, lists, bytes and
+    /// answers go. Gives their number. `docs/HOSTS.md` has the script's bytes and the answers.
+    ///
+    /// ```
+    /// # use board::{Board, ANSWER_NUMBERS};
+    /// let mut board = Board::new();
+    /// let start_and_longest = [0, 8, 0, 0, 0, 0, 3, 0, 0, 0, 0, 0];
+    /// let mut answers = [0; 2 * ANSWER_NUMBERS];
+    /// assert_eq!(board.drive(&start_and_longest, &[], &mut [], &mut [], &mut answers), 2);
+    /// assert_eq!(answers, [0, 0, 0, 0, 0, 1, 0, 0]);
+    /// ```
+    pub fn drive(
+        &mut self,
+        script: &[u8],
+        input: &[u8],
+        lists: &mut [u16],
+        bytes: &mut [u8],
+        answers: &mut [usize],
+    ) -> usize {
+        let state = &mut self.state;
+        // SAFETY: each array has its declared length and each slice its own, none that is written
+        // overlaps another, and the library keeps no pointer.
+        unsafe {
+            drive(
+                state.letters.as_mut_ptr(),
+                state.centres.as_mut_ptr().cast(),
+                state.places.as_mut_ptr().cast(),
+                state.numbers.as_mut_ptr(),
+                script.as_ptr(),
+                script.len(),
+                input.as_ptr(),
+                input.len(),
+                lists.as_mut_ptr(),
+                lists.len(),
+                bytes.as_mut_ptr(),
+                bytes.len(),
+                answers.as_mut_ptr(),
+                answers.len(),
+            )
+        }
+    }
+
+    /// The values of a call that is lent nothing.
+    fn ask(&mut self, number: u8, b: usize, x: usize) -> Result<[usize; 3], Refusal> {
+        self.make(call(number, b, x, 0), &mut [], &mut [])
+    }
+
+    /// The values of one call, lent a list or an output.
+    fn make(
+        &mut self,
+        call: [u8; CALL_BYTES],
+        list: &mut [u16],
+        output: &mut [u8],
+    ) -> Result<[usize; 3], Refusal> {
+        let mut answer = [0; ANSWER_NUMBERS];
+        let made = self.drive(&call, &[], list, output, &mut answer);
+        assert_eq!(made, 1, "calls made of {call:?}");
+        values(answer)
+    }
+}

@@ -1,0 +1,115 @@
+//! Refusals, with what the README tells the fitter of each.
+
+use core::error::Error;
+use core::fmt::{self, Display, Formatter};
+
+/// Why a call was refused: it has changed nothing.
+///
+/// ```
+/// let refusal = board::lift(b'a').unwrap_err();
+/// assert_eq!(refusal.number(), 2);
+/// assert_eq!(refusal.place(), None);
+/// assert_eq!(refusal.sentence().means, "the byte is not a letter A to Z");
+/// assert_eq!(
+///     refusal.to_string(),
+///     "refused with 2: the byte is not a letter A to Z; \
+///      key a capital letter; a small one, a digit or a blank is refused"
+/// );
+/// ```
+#[derive(Clone, Copy, Debug, PartialEq, Eq)]
+pub struct Refusal {
+    number: u8,
+    place: Option<usize>,
+}
+
+/// What the README's table says of a number.
+#[derive(Clone, Copy, Debug, PartialEq, Eq)]
+pub struct Sentence {
+    /// What it means.
+    pub means: &'static str,
+    /// What to do about it.
+    pub remedy: &'static str,
+}
+
+/// The sentences of the numbers, from 1 on.
+pub const SENTENCES: [Sentence; 10] = [
+    Sentence {
+        means: "K is not 1 to 8, or k is not 1 to K",
+        remedy: "start with a K of 1 to 8; ask for at most K sections",
+    },
+    Sentence {
+        means: "the byte is not a letter A to Z",
+        remedy: "key a capital letter; a small one, a digit or a blank is refused",
+    },
+    Sentence {
+        means: "the visit list has under 19 entries, or the ends list under k",
+        remedy: "lend a longer list",
+    },
+    Sentence {
+        means: "the prefix is longer than the draft, the centre is not 1 to 2n+1, or there is no such section",
+        remedy: "look at the count of picks first",
+    },
+    Sentence {
+        means: "the record is longer than the output",
+        remedy: "lend more bytes: 7 for each section, half the picks and 8 more always do",
+    },
+    Sentence {
+        means: "the ends do not rise from above 0 to the number of letters",
+        remedy: "take the ends from a split of just these letters",
+    },
+    Sentence {
+        means: "what is stored is no draft (n above 2,048 or K not 1 to 8)",
+        remedy: "start anew",
+    },
+    Sentence {
+        means: "the draft is full: 2,048 picks",
+        remedy: "start a new draft",
+    },
+    Sentence {
+        means: "the prefix is not k mirrored sections",
+        remedy: "ask for a k whose bit the mask has",
+    },
+    Sentence {
+        means: "no ending has this centre, or it is the empty one's",
+        remedy: "begin with the longest ending's centre",
+    },
+];
+
+impl Refusal {
+    /// The refusal under a number that the library gave. None of its numbers names a place.
+    pub(crate) fn under(number: usize) -> Refusal {
+        assert!((1..=SENTENCES.len()).contains(&number), "number {number}");
+        Refusal {
+            number: number as u8,
+            place: None,
+        }
+    }
+
+    /// Its number.
+    pub fn number(self) -> u8 {
+        self.number
+    }
+
+    /// The place of the byte or entry that is refused, counted from 0, where the number names one.
+    pub fn place(self) -> Option<usize> {
+        self.place
+    }
+
+    /// What the README tells the fitter of it.
+    pub fn sentence(self) -> Sentence {
+        SENTENCES[usize::from(self.number) - 1]
+    }
+}
+
+impl Display for Refusal {
+    fn fmt(&self, to: &mut Formatter<'_>) -> fmt::Result {
+        write!(to, "refused with {}", self.number)?;
+        if let Some(place) = self.place {
+            write!(to, " at place {place}")?;
+        }
+        let Sentence { means, remedy } = self.sentence();
+        write!(to, ": {means}; {remedy}")
+    }
+}
+
+impl Error for Refusal {}

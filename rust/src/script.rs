@@ -1,0 +1,43 @@
+//! A call in a script, and its answer.
+
+use crate::refusal::Refusal;
+
+/// Bytes of a script for each call.
+pub const CALL_BYTES: usize = 6;
+
+/// Numbers of the answer to each call: 0 and the values, or 1, the refusal number and zeros.
+pub const ANSWER_NUMBERS: usize = 4;
+
+/// The calls by their numbers in a script.
+pub(crate) const START: u8 = 0;
+pub(crate) const FEED: u8 = 1;
+pub(crate) const SPLIT: u8 = 2;
+pub(crate) const LONGEST_ENDING: u8 = 3;
+pub(crate) const MASK: u8 = 4;
+pub(crate) const RADIUS_AT: u8 = 5;
+pub(crate) const NEXT_SHORTER: u8 = 6;
+pub(crate) const RECORD: u8 = 7;
+
+/// The number in a field of one byte: 255 for a larger one.
+fn byte(number: usize) -> u8 {
+    u8::try_from(number).unwrap_or(u8::MAX)
+}
+
+/// The number in a field of two bytes, the low one first: 65,535 for a larger one.
+fn pair(number: usize) -> [u8; 2] {
+    u16::try_from(number).unwrap_or(u16::MAX).to_le_bytes()
+}
+
+/// A call in a script: its number, and its arguments b, x and m.
+pub(crate) fn call(number: u8, b: usize, x: usize, m: usize) -> [u8; CALL_BYTES] {
+    let ([x_low, x_high], [m_low, m_high]) = (pair(x), pair(m));
+    [number, byte(b), x_low, x_high, m_low, m_high]
+}
+
+/// The values of an answer, or the refusal.
+pub(crate) fn values(answer: [usize; ANSWER_NUMBERS]) -> Result<[usize; 3], Refusal> {
+    match answer {
+        [0, values @ ..] => Ok(values),
+        [_, number, ..] => Err(Refusal::under(number)),
+    }
+}

@@ -1,0 +1,176 @@
+// The calls of include/board.h in the console's language: reads lines with decimal numbers, and answers each as the
+// console does with `--all`. Every list, output and text has just the size that is asked for; where that is 0 it is a
+// null pointer, and another size is said of it. It is C11 and C++11.
+#include "board.h"
+
+#include <stdio.h>
+#include <stdlib.h>
+#include <string.h>
+
+// The most that is printed of what is lent, as much as the script's field can hold, and the most that is lent; the size
+// that is said of a null pointer; the most ends of a show; the longest line.
+enum { MOST_PRINTED = 65535, MOST_LENT = 70000, SAID_OF_NULL = 2048, MOST_ENDS = 4096, MOST_LINE = 1 << 16 };
+
+static struct board board;
+
+// The next word of the line; a null pointer where there is none.
+static const char *word(void) { return strtok(NULL, " \n"); }
+
+// The next number; the largest where it is beyond a machine word, and the other where there is none.
+static size_t number_or(size_t other) {
+    const char *digits = word();
+    return digits ? (size_t)strtoull(digits, NULL, 10) : other;
+}
+
+static size_t number(void) { return number_or(0); }
+
+static size_t least(size_t a, size_t b) { return a < b ? a : b; }
+
+// The size that is said of what is lent: "A null pointer lends nothing, whatever is said of its size."
+static size_t said(size_t size) { return size ? size : (size_t)SAID_OF_NULL; }
+
+// Memory of just so many bytes; a null pointer where there are none.
+static void *lend(size_t bytes) {
+    void *memory = bytes ? malloc(bytes) : NULL;
+    if (bytes && !memory)
+        abort();
+    return memory;
+}
+
+static uint16_t *lend_list(size_t entries) {
+    uint16_t *list = (uint16_t *)lend(entries * sizeof *list);
+    for (size_t i = 0; i < entries; i++)
+        list[i] = (uint16_t)(60000 + i % 5000);
+    return list;
+}
+
+static uint8_t *lend_output(size_t bytes) {
+    uint8_t *output = (uint8_t *)lend(bytes);
+    if (bytes)
+        memset(output, 42, bytes);
+    return output;
+}
+
+// Prints `ok`, or `refused` and its number. A refused call has no other value than 0.
+static void print_number(size_t number, int has_value) {
+    if (number)
+        printf("refused %zu%s", number, has_value ? " and a value" : "");
+    else
+        printf("ok");
+}
+
+static void print_value(size_t number, size_t value) {
+    print_number(number, value != 0);
+    if (!number)
+        printf(" %zu", value);
+}
+
+static void print_list(const uint16_t *list, size_t entries) {
+    printf(" |");
+    for (size_t i = 0; i < least(entries, MOST_PRINTED); i++)
+        printf(" %u", (unsigned)list[i]);
+}
+
+static void print_text(const uint8_t *text, size_t length) {
+    printf(length ? " | " : " |");
+    for (size_t i = 0; i < least(length, MOST_PRINTED); i++) {
+        if (text[i] == '\n')
+            printf("\\n");
+        else
+            putchar(text[i]);
+    }
+}
+
+static void start(void) { print_number(board_start(&board, number()).number, 0); }
+
+static void feed(void) {
+    size_t pick = number(), entries = least(number_or(BOARD_VISITS), MOST_LENT);
+    uint16_t *visits = lend_list(entries);
+    struct board_feed_answer answer = board_feed(&board, pick, visits, said(entries));
+    print_number(answer.number, answer.mask || answer.visits);
+    if (!answer.number)
+        printf(" %u %zu", (unsigned)answer.mask, answer.visits);
+    print_list(visits, entries);
+    free(visits);
+}
+
+static void mask(void) {
+    struct board_mask_answer answer = board_mask(&board, board_prefix(number()));
+    print_value(answer.number, answer.mask);
+}
+
+static void radius(void) {
+    struct board_radius_answer answer = board_radius(&board, board_centre_at(number()));
+    print_value(answer.number, answer.radius);
+}
+
+static void longest(void) {
+    struct board_centre_answer answer = board_longest(&board);
+    print_value(answer.number, answer.centre.half_picks);
+}
+
+static void next(void) {
+    struct board_centre_answer answer = board_next(&board, board_centre_at(number()));
+    print_value(answer.number, answer.centre.half_picks);
+}
+
+static void split(void) {
+    size_t prefix = number(), k = number(), entries = least(number_or(least(k, UINT8_MAX)), MOST_LENT);
+    uint16_t *ends = lend_list(entries);
+    struct board_split_answer answer = board_split(&board, board_prefix(prefix), k, ends, said(entries));
+    print_value(answer.number, answer.turns);
+    print_list(ends, entries);
+    free(ends);
+}
+
+static void record(void) {
+    size_t prefix = number(), k = number(), bytes = least(number_or(2048), MOST_LENT);
+    uint8_t *output = lend_output(bytes);
+    struct board_record_answer answer = board_record(&board, board_prefix(prefix), k, output, said(bytes));
+    print_value(answer.number, answer.bytes);
+    print_text(output, bytes);
+    free(output);
+}
+
+static void show(void) {
+    const char *text = word();
+    size_t length = strcmp(text, "-") ? strlen(text) : 0, s = number(), count = 0;
+    uint16_t read[MOST_ENDS];
+    for (const char *end = word(); end && count < MOST_ENDS; end = word())
+        read[count++] = (uint16_t)strtoul(end, NULL, 10);
+    uint8_t *letters = (uint8_t *)lend(length);
+    uint16_t *ends = lend_list(count);
+    if (length)
+        memcpy(letters, text, length);
+    if (count)
+        memcpy(ends, read, count * sizeof *ends);
+    struct board_show_answer answer = board_show(letters, said(length), ends, said(count), s);
+    print_number(answer.number, answer.len != 0);
+    if (!answer.number)
+        print_text(answer.part, answer.len);
+    free(letters);
+    free(ends);
+}
+
+static void lift(void) {
+    struct board_lift_answer answer = board_lift(number());
+    print_value(answer.number, answer.lift);
+}
+
+static const struct {
+    const char *word;
+    void (*answer)(void);
+} calls[] = {{"start", start}, {"feed", feed},   {"mask", mask},     {"radius", radius}, {"longest", longest},
+             {"next", next},   {"split", split}, {"record", record}, {"show", show},     {"lift", lift}};
+
+int main(void) {
+    static char line[MOST_LINE];
+    while (fgets(line, sizeof line, stdin)) {
+        const char *first = strtok(line, " \n");
+        for (size_t i = 0; first && i < sizeof calls / sizeof *calls; i++)
+            if (!strcmp(first, calls[i].word))
+                calls[i].answer();
+        putchar('\n');
+    }
+    return 0;
+}

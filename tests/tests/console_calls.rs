@@ -1,0 +1,163 @@
+//! Each call through the console, on both sides of each bound, against the console as a
+//! function; the sessions that are written out say both.
+
+#[path = "support/console.rs"]
+mod console;
+#[path = "support/console_session.rs"]
+mod console_session;
+#[path = "support/far_places.rs"]
+mod far_places;
+#[path = "support/refusals.rs"]
+mod refusals;
+
+use comparison::samples::repeated;
+use comparison::MOST_PICKS;
+use console::compare;
+use console_session::compare_session;
+use far_places::assert_far_are_refused;
+use refusals::refusals;
+
+/// "Drafts at the edges", K = 8, with document 01's numbers.
+#[test]
+fn the_worked_examples() {
+    compare_session(false, include_str!("support/sessions/worked_examples.txt"));
+    compare_session(false, include_str!("support/sessions/folded_record.txt"));
+}
+
+/// "With `--all` the whole list or output is printed as it stands after every call."
+#[test]
+fn the_whole_of_what_is_lent() {
+    compare_session(true, include_str!("support/sessions/whole_lists.txt"));
+}
+
+/// The numbers of each call in their order: feed 7, 2, 3, 8; split 7, 1, 3, 4, 9; record
+/// 7, 1, 4, 9, 5; next shorter ending 7, 4, 10; show 4, 6; the others.
+#[test]
+fn the_order_of_numbers() {
+    compare_session(false, include_str!("support/sessions/order_of_feed.txt"));
+    compare_session(
+        false,
+        include_str!("support/sessions/order_of_split_and_record.txt"),
+    );
+    compare_session(false, include_str!("support/sessions/order_of_others.txt"));
+}
+
+/// Pick 2,048 is taken. Behind it each number of a feed in its order.
+#[test]
+fn a_full_draft() {
+    let picks = "A".repeat(MOST_PICKS);
+    let feeds = "feed a 18\nfeed A 18\nfeed A\nfeed A 19\n";
+    let answers = compare(false, format!("start 1\npicks {picks}\n{feeds}"));
+    assert_eq!(answers[MOST_PICKS], "ok 1 2 | 2048 1", "pick 2,048");
+    let last = ["refused 2", "refused 3", "refused 8", "refused 8"];
+    assert_eq!(answers[MOST_PICKS + 1..], last);
+}
+
+/// Each argument on both sides of its bounds, with `--all` and without.
+#[test]
+fn both_sides_of_each_bound() {
+    let mut input = String::from("start 8\npicks ABACDDC\n");
+    for at in 0..=17 {
+        input += &format!("mask {at}\nradius {at}\nnext {at}\nsplit {at} 2\nsplit 7 {at}\n");
+        input += &format!("split 7 5 {at}\nrecord {at} 2\nrecord 7 {at}\nrecord 7 2 {at}\n");
+        input += &format!("show ABACDDC {at} 3 7\nshow ABACDDC 2 {at} 7\nshow ABACDDC 1 3 {at}\n");
+    }
+    for k in 0..=256 {
+        input += &format!("start {k}\nfeed 65\nmask 1\nsplit 1 2\nrecord 1 3\n");
+    }
+    for all in [false, true] {
+        let times = refusals(&compare(all, &input));
+        let given = [1, 3, 4, 5, 6, 9, 10].map(|number| times[number] > 0);
+        assert_eq!(given, [true; 7], "numbers among the answers: {times:?}");
+    }
+}
+
+/// Picks and letters as numbers, every byte and beyond it, as bytes, and as characters of
+/// several bytes.
+#[test]
+fn picks_as_numbers_and_as_characters() {
+    let numbers = (0..=300).map(|number: usize| number.to_string().into_bytes());
+    let bytes = (0..=255).filter(|byte| !b" \t\r\n".contains(byte));
+    let characters = ["\u{e9}", "\u{3bb}", "\u{1f9f5}", "\u{c1}", "\u{141}"];
+    let words = numbers
+        .chain(bytes.map(|byte| vec![byte]))
+        .chain(characters.map(|character| character.as_bytes().to_vec()));
+    let mut input = b"start 3\n".to_vec();
+    for word in words {
+        input.extend([b"feed ", &word[..], b"\nlift ", &word, b"\n"].concat());
+    }
+    let answers = compare(false, input);
+    let taken = answers.iter().filter(|answer| answer.starts_with("ok"));
+    assert_eq!(taken.count(), 1 + 4 * 26, "letters among them");
+    compare_session(false, include_str!("support/sessions/picks.txt"));
+}
+
+/// Numbers beyond a byte, two bytes, four and eight, which are this number where they are
+/// cut, and numbers of 21 and of 40 digits.
+fn far(number: u128) -> Vec<String> {
+    let beyond = [8, 16, 17, 32, 64, 65].map(|bits| (1 << bits) + number);
+    let decimal = [10_u128.pow(20), 10_u128.pow(38)].map(|bound| bound + number);
+    let numbers = beyond.into_iter().chain(decimal);
+    let of_40_digits = format!("1{number:039}");
+    numbers
+        .map(|number| number.to_string())
+        .chain([of_40_digits])
+        .collect()
+}
+
+/// "An argument that the script's field can't hold goes in as the field's largest number,
+/// never cut, so that the call itself refuses, in its order."
+#[test]
+fn arguments_beyond_their_fields() {
+    for all in [false, true] {
+        assert_far_are_refused("start 8\npicks ABACDDC\n", far, |input| compare(all, input));
+    }
+}
+
+/// How much is lent: none, too little, enough, and far more than there are entries.
+#[test]
+fn sizes_of_what_is_lent() {
+    let mut input = String::from("start 8\npicks ABACDD\n");
+    for size in "0 1 4 5 18 19 23 24 65535 65536 100000000000000000000".split(' ') {
+        input += &format!("feed C {size}\nsplit 6 5 {size}\nrecord 6 5 {size}\n");
+    }
+    for all in [false, true] {
+        let answers = &compare(all, &input)[7..];
+        let [feeds, splits, records] = [0, 1, 2].map(|call| {
+            let answers = answers.iter().skip(call).step_by(3);
+            answers.filter(|answer| answer.starts_with("ok")).count()
+        });
+        assert_eq!(feeds, 6, "feeds with a list of 19 and more");
+        assert_eq!(splits, 8, "splits with one of 5 and more");
+        assert_eq!(records, 4, "records with an output of 24 and more");
+    }
+}
+
+/// Sizes beyond 65,535, which would be 0 where they are cut.
+#[test]
+fn sizes_beyond_their_fields() {
+    let mut input = String::from("start 8\npicks ABACDDC\n");
+    for far in far(0) {
+        input += &format!("split 7 2 {far}\nrecord 7 2 {far}\nfeed A {far}\n");
+    }
+    let answers = compare(false, input);
+    let refused = answers.iter().find(|answer| !answer.starts_with("ok"));
+    assert_eq!(refused, None);
+}
+
+/// Outputs of a byte too few, exactly enough, and more, for each k of a draft.
+#[test]
+fn sizes_of_outputs() {
+    let draft = String::from_utf8(repeated(b"AAB", 40)).expect("letters");
+    let mut input = format!("start 8\npicks {draft}\n");
+    for k in 1..=8 {
+        for bytes in 20..80 {
+            input += &format!("record 39 {k} {bytes}\n");
+        }
+        input += &format!("record 39 {k}\n");
+    }
+    for all in [false, true] {
+        let times = refusals(&compare(all, &input));
+        assert!(times[5] > 60, "outputs that are too short: {}", times[5]);
+    }
+}

@@ -1,0 +1,141 @@
+//! Each call by its function in include/board.h, in C with the sanitizers and in C++,
+//! against the console as a function with `--all`. Every list and output has just the
+//! size that is asked for.
+
+#[path = "support/answered.rs"]
+mod answered;
+#[path = "support/c_program.rs"]
+mod c_program;
+#[path = "support/call_lines.rs"]
+mod call_lines;
+#[path = "support/far_places.rs"]
+mod far_places;
+#[path = "support/process.rs"]
+mod process;
+#[path = "support/transcript.rs"]
+mod transcript;
+
+use answered::{assert_answered, end_of};
+use c_program::program;
+use call_lines::{session, some_call};
+use comparison::full_drafts::of_each_kind;
+use comparison::samples::Generator;
+use comparison::MOST_PICKS;
+use far_places::assert_far_are_refused;
+use process::Process;
+use std::io::Write;
+use std::path::{Path, PathBuf};
+use std::process::{Command, Stdio};
+use std::sync::LazyLock;
+use transcript::assert_session;
+
+/// The program that makes the calls.
+const SOURCE: &str = "c/spoken.c";
+
+/// The calls in C, with the sanitizers, and with a function before each of the library's
+/// that takes no null pointer.
+static IN_C: LazyLock<PathBuf> = LazyLock::new(|| {
+    let sanitized = "gcc -std=c11 -O1 -g -fsanitize=address,undefined -fno-sanitize-recover";
+    let not_null = "-Wl,--wrap=drive,--wrap=drive_show c/not_null.c";
+    program(&format!("{sanitized} {not_null}"), SOURCE, "header_calls_c")
+});
+
+/// Runs the program on the lines; it answers what the function answers. Gives the
+/// answers.
+fn compare(program: &Path, input: &str) -> Vec<String> {
+    let mut process = Process::of(Command::new(program), Stdio::piped());
+    process.input().write_all(input.as_bytes()).ok();
+    let case = end_of(input.as_bytes());
+    let (output, status) = process.end(&case);
+    assert!(status.success(), "{status}: {case}");
+    let answers: Vec<String> = output.lines().map(String::from).collect();
+    assert_answered(true, input.as_bytes(), &answers);
+    answers
+}
+
+/// Each call with document 01's worked examples, in C and in C++.
+#[test]
+fn the_worked_examples() {
+    let session = include_str!("support/sessions/header.txt");
+    assert_session(session, |input| compare(&IN_C, input));
+    let in_cpp = program("g++ -x c++ -std=c++11 -O1", SOURCE, "header_calls_cpp");
+    assert_session(session, |input| compare(&in_cpp, input));
+}
+
+/// Random sessions, arguments beyond the script's fields among them.
+#[test]
+fn random_sessions() {
+    let generator = &mut Generator(91);
+    let mut accepted = 0;
+    for _ in 0..150 {
+        let opening = match generator.below(8) {
+            0 => "longest".to_string(),
+            _ => format!("start {}", 1 + generator.below(8)),
+        };
+        let input = session(&opening, 60, |n| some_call(generator, n));
+        let answers = compare(&IN_C, &input);
+        accepted += answers
+            .iter()
+            .filter(|answer| answer.starts_with("ok"))
+            .count();
+    }
+    assert!(accepted > 4_000, "{accepted} calls are accepted");
+}
+
+/// The feeds of a draft.
+fn feeds(draft: &[u8]) -> String {
+    draft.iter().map(|pick| format!("feed {pick}\n")).collect()
+}
+
+/// Numbers beyond a byte, two bytes and four, and the last of eight bytes.
+fn far(number: u128) -> [String; 4] {
+    let last = u128::from(u64::MAX) - 255;
+    [1 << 8, 1 << 16, 1 << 32, last].map(|beyond| (beyond + number).to_string())
+}
+
+/// Arguments beyond the script's fields, which would be good where they are cut.
+#[test]
+fn arguments_beyond_the_fields() {
+    let opening = format!("start 8\n{}", feeds(b"ABACDDC"));
+    assert_far_are_refused(&opening, far, |input| compare(&IN_C, input));
+    let mut input = opening;
+    for far in far(0) {
+        input += &format!("split 7 2 {far}\nrecord 7 2 {far}\nfeed 65 {far}\n");
+    }
+    let answers = compare(&IN_C, &input);
+    let refused = answers.iter().find(|answer| !answer.starts_with("ok"));
+    assert_eq!(refused, None, "calls that are lent very much");
+}
+
+/// Drafts of 2,048 picks and one more, with calls behind them.
+#[test]
+fn full_drafts() {
+    let generator = &mut Generator(92);
+    for (_, draft) in of_each_kind().into_iter().step_by(9) {
+        let opening = format!("start 8\n{}", feeds(&draft));
+        let input = session(&opening, 60, |n| some_call(generator, n));
+        let answers = compare(&IN_C, &format!("{input}feed 65\n"));
+        let taken = answers[MOST_PICKS].starts_with("ok ");
+        assert!(taken, "pick 2,048: {}", answers[MOST_PICKS]);
+    }
+}
+
+/// Over a library that has none of the calls no function of the header is accepted.
+#[test]
+fn a_library_without_the_calls() {
+    let path = program("gcc -std=c11", "c/no_calls.c", "header_calls_none");
+    let output = Command::new(path).output().expect("the program runs");
+    let expected = [
+        "start 255",
+        "feed 255 0 0",
+        "mask 255 0",
+        "radius 255 0",
+        "longest 255 0",
+        "next 255 0",
+        "split 255 0",
+        "record 255 0",
+        "",
+    ];
+    let printed = String::from_utf8_lossy(&output.stdout);
+    assert_eq!(printed, expected.join("\n"));
+}

@@ -1,0 +1,186 @@
+//! The constants, types, sizes and offsets of include/board.h and of the Rust package are
+//! those of the Rattle sources: a C compiler holds them to their declarations.
+
+#[path = "support/compiled.rs"]
+mod compiled;
+#[path = "support/rattle.rs"]
+mod rattle;
+
+use board::State;
+use compiled::{compiler, folder};
+use rattle::declarations;
+use std::fs::{read_to_string, remove_file, write};
+use std::mem::{offset_of, size_of};
+use std::process::id;
+
+/// The Rattle sources that the header repeats.
+const SOURCES: [&str; 4] = [
+    "../crates/cells/src/lib.rt",
+    "../crates/drive/src/make.rt",
+    "../crates/drive/src/request.rt",
+    "../crates/drive/src/lib.rt",
+];
+
+/// Each constant in Rattle, in the header and in the Rust package.
+const CONSTANTS: [(&str, &str, usize); 14] = [
+    ("PICKS", "BOARD_PICKS", board::PICKS),
+    ("SECTIONS", "BOARD_SECTIONS", board::SECTIONS),
+    ("VISITS", "BOARD_VISITS", board::VISITS),
+    ("CENTRE_LANES", "BOARD_CENTRE_LANES", board::CENTRE_LANES),
+    ("RADIUS", "BOARD_RADIUS_LANE", board::RADIUS),
+    ("LENDS", "BOARD_LENDS_LANE", board::LENDS),
+    ("NEXT", "BOARD_NEXT_LANE", board::NEXT),
+    ("PREV", "BOARD_PREV_LANE", board::PREV),
+    ("PLACE_LANES", "BOARD_PLACE_LANES", board::PLACE_LANES),
+    ("HEADS", "BOARD_HEADS_LANE", board::HEADS),
+    ("ROWS", "BOARD_ROWS_LANE", board::ROWS),
+    ("GATHERED", "BOARD_GATHERED_LANE", board::GATHERED),
+    ("CALL_SIZE", "BOARD_CALL_SIZE", board::CALL_BYTES),
+    ("ANSWER_SIZE", "BOARD_ANSWER_SIZE", board::ANSWER_NUMBERS),
+];
+
+/// What follows from the sizes of the Rattle types, in C.
+const LAYOUT: [&str; 16] = [
+    "(size_t)BOARD_CALLS == CALLS",
+    "BOARD_CENTRES == sizeof(ByCentre) / sizeof(uint16_t)",
+    "BOARD_PLACES == sizeof(ByPlace) / sizeof(uint16_t)",
+    "BOARD_RECORD == PICKS / 2 + 7 * SECTIONS + 8",
+    "BOARD_N == 0 && BOARD_K == 1 && BOARD_LONGEST == 2 && BOARD_NUMBERS == 3",
+    "_Generic(&((struct board *)0)->letters, Letters *: 1, default: 0)",
+    "_Generic(&((struct board *)0)->centres, Centres *: 1, default: 0)",
+    "_Generic(&((struct board *)0)->places, Places *: 1, default: 0)",
+    "_Generic(&((struct board *)0)->numbers, size_t (*)[3]: 1, default: 0)",
+    "sizeof(((struct board *)0)->letters) == sizeof(Letters)",
+    "sizeof(((struct board *)0)->centres) == sizeof(Centres)",
+    "sizeof(((struct board *)0)->places) == sizeof(Places)",
+    "offsetof(struct board, centres) == sizeof(Letters)",
+    "offsetof(struct board, places) == sizeof(Letters) + sizeof(Centres)",
+    "offsetof(struct board, numbers) == (sizeof(Letters) + sizeof(Centres) + sizeof(Places) + 7) / 8 * 8",
+    "sizeof(struct board) == offsetof(struct board, numbers) + 3 * sizeof(size_t)",
+];
+
+/// The sizes and offsets of the Rust package's state, as those of the header.
+fn of_rust() -> Vec<String> {
+    let sizes = [
+        (board::CENTRES, "sizeof(ByCentre) / sizeof(uint16_t)"),
+        (board::PLACES, "sizeof(ByPlace) / sizeof(uint16_t)"),
+        (
+            offset_of!(State, letters),
+            "offsetof(struct board, letters)",
+        ),
+        (
+            offset_of!(State, centres),
+            "offsetof(struct board, centres)",
+        ),
+        (offset_of!(State, places), "offsetof(struct board, places)"),
+        (
+            offset_of!(State, numbers),
+            "offsetof(struct board, numbers)",
+        ),
+        (size_of::<State>(), "sizeof(struct board)"),
+        (
+            size_of::<State>() - offset_of!(State, numbers),
+            "3 * sizeof(size_t)",
+        ),
+    ];
+    let constants = CONSTANTS.map(|(name, _, value)| format!("{value} == {name}"));
+    let sizes = sizes.map(|(value, size)| format!("{value} == {size}"));
+    constants.into_iter().chain(sizes).collect()
+}
+
+/// The text of the Rattle sources.
+fn sources() -> String {
+    let text = |path| read_to_string(path).unwrap_or_else(|error| panic!("{path}: {error}"));
+    SOURCES.map(text).concat()
+}
+
+/// What the compiler says to a file with the header, the declarations of the Rattle
+/// sources and all that must hold; nothing where it takes it.
+fn refusal(sources: &str, name: &str) -> Option<String> {
+    let constants = CONSTANTS.map(|(rattle, header, _)| format!("(size_t){header} == {rattle}"));
+    let layout = LAYOUT.map(String::from);
+    let facts = constants.into_iter().chain(layout).chain(of_rust());
+    let facts = facts.map(|fact| format!("_Static_assert({fact}, \"{fact}\");\n"));
+    let (declared, asserted) = (declarations(sources), facts.collect::<String>());
+    let path = folder().join(format!("header_sizes_{name}_{}.c", id()));
+    let text = format!("#include \"board.h\"\n{declared}{asserted}");
+    write(&path, text).expect("room for a file");
+    let output = compiler("gcc -std=c11 -fsyntax-only", &[&path]);
+    remove_file(&path).expect("that file");
+    let said = String::from_utf8_lossy(&output.stderr).into_owned();
+    (!output.status.success()).then_some(said)
+}
+
+/// The header, and the numbers of the Rust package, beside the sources as they are.
+#[test]
+fn the_header_and_the_package_are_those_of_the_sources() {
+    let sources = sources();
+    let three_numbers = "numbers: &mut [usize; 3],";
+    assert!(sources.contains(three_numbers), "no {three_numbers}");
+    assert_eq!(refusal(&sources, "as_they_are"), None);
+}
+
+/// A copy of the sources with one text in place of the other, which stands there once.
+fn changed(sources: &str, old: &str, new: &str) -> String {
+    assert_eq!(sources.matches(old).count(), 1, "{old} in the sources");
+    sources.replace(old, new)
+}
+
+/// Asserts that the compiler refuses the changed sources, and says this.
+fn assert_refused(changed: &str, name: &str, said: &str) {
+    let refusal = refusal(changed, name);
+    let is_said = refusal
+        .as_ref()
+        .is_some_and(|refusal| refusal.contains(said));
+    assert!(is_said, "{name} is changed: {refusal:?}");
+}
+
+/// Each constant that is another is refused.
+#[test]
+fn a_changed_constant_is_refused() {
+    let sources = sources();
+    let constants = CONSTANTS
+        .map(|(name, _, _)| name)
+        .into_iter()
+        .chain(["CALLS"]);
+    for name in constants {
+        let line = format!("const {name}: ");
+        let (_, behind) = sources.split_once(&line).expect(name);
+        let (old, _) = behind.split_once(';').expect("the end of the constant");
+        let old = format!("{line}{old};");
+        let new = old.replace(';', " + 1;");
+        let changed = changed(&sources, &old, &new);
+        assert_refused(&changed, name, "static assertion failed");
+    }
+}
+
+/// So is a type that is another, and a parameter.
+#[test]
+fn a_changed_type_is_refused() {
+    let failed = "static assertion failed";
+    let conflict = "conflicting types";
+    for (old, new, said) in [
+        ("[u8; PICKS]", "[u16; PICKS]", failed),
+        ("[u16; PICKS + 1]", "[u16; PICKS + 2]", failed),
+        ("[u16; PICKS + 1]", "[u8; PICKS + 1]", failed),
+        ("[u16; 2 * PICKS + 2]", "[u16; 2 * PICKS + 1]", failed),
+        (
+            "[ByCentre; CENTRE_LANES]",
+            "[ByPlace; CENTRE_LANES]",
+            failed,
+        ),
+        (
+            "pub extern \"C\" fn drive_lift(letter: u8,",
+            "pub extern \"C\" fn drive_lift(letter: u16,",
+            conflict,
+        ),
+        (
+            "    s: usize,\n    part: &mut [u8],",
+            "    part: &mut [u8],\n    s: usize,",
+            conflict,
+        ),
+    ] {
+        let changed = changed(&sources(), old, new);
+        assert_refused(&changed, "type", said);
+    }
+}

@@ -1,0 +1,113 @@
+//! What README, docs/HOSTS.md and the console's help say of the hosts is so.
+
+#[path = "support/console.rs"]
+mod console;
+#[path = "support/console_session.rs"]
+mod console_session;
+
+use board::{Sentence, State, SENTENCES};
+use console::compare;
+use console_session::compare_session;
+use std::fs::read_to_string;
+use std::mem::size_of;
+use std::path::Path;
+
+/// A file of the repository.
+fn file(name: &str) -> String {
+    let path = Path::new(env!("CARGO_MANIFEST_DIR")).join("..").join(name);
+    read_to_string(&path).unwrap_or_else(|error| panic!("{}: {error}", path.display()))
+}
+
+/// The cells of the rows of the table that has this header.
+fn rows(text: &str, header: &str) -> Vec<Vec<String>> {
+    let (_, behind) = text
+        .split_once(header)
+        .unwrap_or_else(|| panic!("no table {header}"));
+    let lines = behind
+        .lines()
+        .skip(2)
+        .take_while(|line| line.starts_with('|'));
+    let cells = |line: &str| {
+        line.trim_matches('|')
+            .split(" | ")
+            .map(|cell| cell.trim().to_string())
+            .collect()
+    };
+    lines.map(cells).collect()
+}
+
+/// The package has the README's two sentences of each number, and no other number.
+#[test]
+fn the_sentences_are_those_of_the_readme() {
+    let table = rows(&file("README.md"), "| Number | It means | What to do |");
+    assert_eq!(table.len(), SENTENCES.len(), "numbers in README.md's table");
+    for (row, (at, Sentence { means, remedy })) in table.iter().zip(SENTENCES.iter().enumerate()) {
+        assert_eq!(row, &[&(at + 1).to_string(), *means, *remedy]);
+    }
+}
+
+/// The session in the README is as the console prints it.
+#[test]
+fn the_session_is_as_the_console_prints_it() {
+    let readme = file("README.md");
+    let (_, behind) = readme
+        .split_once("    $ ./board\n")
+        .expect("README.md has no session");
+    let lines = behind.lines().map_while(|line| line.strip_prefix("    "));
+    let session: Vec<&str> = lines.collect();
+    assert!(session.len() > 60, "only {} lines", session.len());
+    compare_session(false, &session.join("\n"));
+}
+
+/// Every call that `help` names has its line in the help text and in docs/HOSTS.md, as it is written.
+#[test]
+fn every_call_is_explained() {
+    let answer = compare(false, b"help\n").concat();
+    let calls: Vec<&str> = answer
+        .strip_prefix("ok ")
+        .expect("an accepted call")
+        .split("; ")
+        .collect();
+    assert!(calls.len() > 10, "{answer}");
+    let (help, hosts) = (file("console/help.txt"), file("docs/HOSTS.md"));
+    for call in calls {
+        for call in ways_to_write(call) {
+            let line = format!("\n  {call} ");
+            assert!(help.contains(&line), "help.txt has no line for {call}");
+            assert!(
+                hosts.contains(&format!("\n| `{call}` |")),
+                "HOSTS.md has no row for {call}"
+            );
+        }
+    }
+}
+
+/// A call whose words may all be left out together has a line with them and one without.
+fn ways_to_write(call: &str) -> Vec<String> {
+    match call.split_once(" [") {
+        Some((word, words)) if !word.contains(' ') => {
+            vec![
+                word.to_string(),
+                format!("{word} {}", words.trim_end_matches(']')),
+            ]
+        }
+        _ => vec![call.to_string()],
+    }
+}
+
+/// docs/HOSTS.md has the state's size and the arrays' names.
+#[test]
+fn the_state_is_as_large_as_said() {
+    let hosts = file("docs/HOSTS.md");
+    let size = size_of::<State>();
+    let said = format!("{},{:03}", size / 1_000, size % 1_000);
+    assert!(hosts.contains(&said), "HOSTS.md does not say {said}");
+    let answer = compare(false, b"peek\n").concat();
+    let names = answer.split(' ').skip(1).step_by(2);
+    for name in names {
+        assert!(
+            hosts.contains(&format!("`{name}`")),
+            "HOSTS.md has no array {name}"
+        );
+    }
+}

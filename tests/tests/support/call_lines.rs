@@ -1,0 +1,116 @@
+//! Lines of the ten calls, good and bad arguments mixed, all in decimal numbers.
+
+use comparison::samples::Generator;
+use comparison::spoken::Console;
+
+/// Numbers beyond a byte, beyond two bytes, and the largest of a machine word.
+const FAR: [&str; 8] = [
+    "255",
+    "256",
+    "264",
+    "65535",
+    "65536",
+    "65543",
+    "4294967297",
+    "18446744073709551615",
+];
+
+/// A session: an opening, and so many lines, each made for the draft of n picks as it
+/// then is, by the console as a function.
+pub fn session(opening: &str, count: usize, mut line: impl FnMut(usize) -> String) -> String {
+    let mut console = Console::new(false);
+    for line in opening.lines() {
+        console.answers(line.as_bytes());
+    }
+    let mut input = format!("{}\n", opening.trim_end());
+    for _ in 0..count {
+        let line = line(console.n());
+        console.answers(line.as_bytes());
+        input += &format!("{line}\n");
+    }
+    input
+}
+
+/// A line of some call on a draft of n picks. Starts are few, so that the draft grows.
+pub fn some_call(generator: &mut Generator, n: usize) -> String {
+    match generator.below(32) {
+        0 => format!("start {}", some_number(generator, 10)),
+        1..=10 => some_feed(generator),
+        11..=12 => format!("mask {}", some_prefix(generator, n)),
+        13..=14 => format!("radius {}", some_centre(generator, n)),
+        15..=16 => "longest".to_string(),
+        17..=19 => format!("next {}", some_centre(generator, n)),
+        20..=24 => lent(generator, "split", n, 12),
+        25..=28 => lent(generator, "record", n, 30),
+        29..=30 => some_show(generator),
+        _ => format!("lift {}", some_number(generator, 100)),
+    }
+}
+
+/// A number below the bound, or now and then a far one.
+fn some_number(generator: &mut Generator, below: usize) -> String {
+    match generator.below(12) {
+        0 => FAR[generator.below(FAR.len())].to_string(),
+        1 => format!("00{}", generator.below(below)),
+        _ => generator.below(below).to_string(),
+    }
+}
+
+/// A pick, A, B or C mostly, and sometimes the entries of its list, 19 or more mostly.
+fn some_feed(generator: &mut Generator) -> String {
+    let pick = match generator.below(12) {
+        0 => some_number(generator, 256),
+        1 => [64, 90, 91, 97][generator.below(4)].to_string(),
+        at => b"AAAABBBBBC"[at - 2].to_string(),
+    };
+    match generator.below(8) {
+        0 => format!("feed {pick} {}", some_number(generator, 24)),
+        1 => format!("feed {pick} {}", 17 + generator.below(8)),
+        _ => format!("feed {pick}"),
+    }
+}
+
+/// A prefix: mostly up to n + 1, often n itself.
+fn some_prefix(generator: &mut Generator, n: usize) -> String {
+    match generator.below(3) {
+        0 => n.to_string(),
+        _ => some_number(generator, n + 2),
+    }
+}
+
+/// A centre: mostly up to 2n + 2, often among the last of them.
+fn some_centre(generator: &mut Generator, n: usize) -> String {
+    match generator.below(2) {
+        0 => (2 * n + 2).saturating_sub(generator.below(8)).to_string(),
+        _ => some_number(generator, 2 * n + 3),
+    }
+}
+
+/// A split or a record, sometimes with what it is lent, mostly below the bound.
+fn lent(generator: &mut Generator, word: &str, n: usize, below: usize) -> String {
+    let prefix = some_prefix(generator, n);
+    let k = some_number(generator, 10);
+    match generator.below(2) {
+        0 => format!("{word} {prefix} {k} {}", some_number(generator, below)),
+        _ => format!("{word} {prefix} {k}"),
+    }
+}
+
+/// A show of up to 12 letters: the ends are right mostly, and one of them is changed now
+/// and then.
+fn some_show(generator: &mut Generator) -> String {
+    let count = generator.below(13);
+    let letters = match count {
+        0 => "-".to_string(),
+        _ => String::from_utf8(generator.draft(26, count)).expect("letters"),
+    };
+    let mut ends: Vec<usize> = (1..count).filter(|_| generator.below(3) == 0).collect();
+    ends.extend((count > 0).then_some(count));
+    let s = some_number(generator, ends.len() + 2);
+    if generator.below(3) == 0 && !ends.is_empty() {
+        let at = generator.below(ends.len());
+        ends[at] = [generator.below(count + 2), 65_535][generator.below(2)];
+    }
+    let ends: String = ends.iter().map(|end| format!(" {end}")).collect();
+    format!("show {letters} {s}{ends}")
+}
