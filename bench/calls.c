@@ -41,7 +41,20 @@ static void questions(void) {
     }
 }
 
-// Record and split of prefix i into k. Where there is one: with too little lent too, and each section shown.
+// Unfolds the record of prefix i in k sections, with too little lent and without its end too, and reads each section.
+static void read_back(size_t i, size_t k) {
+    size_t bytes = board_record(&board, board_prefix(i), k, record, BOARD_RECORD).bytes;
+    struct board_reader reader = board_read(record, bytes);
+    on_draft(UNFOLD_CALL, 0, bytes, BOARD_PICKS);
+    on_draft(UNFOLD_CALL, 0, bytes, i - 1);
+    on_draft(UNFOLD_CALL, 0, bytes - 1, BOARD_PICKS);
+    do
+        on_draft(SECTION_CALL, reader.at, bytes, 0);
+    while (board_next_section(&reader).turn != BOARD_NO_SECTION);
+}
+
+// Record and split of prefix i into k. Where there is one: with too little lent too, each section shown, and the record
+// read back.
 static void sections(size_t i, size_t k) {
     on_draft(BOARD_RECORD_CALL, k, i, BOARD_RECORD);
     if (on_draft(BOARD_SPLIT_CALL, k, i, BOARD_SECTIONS))
@@ -50,6 +63,7 @@ static void sections(size_t i, size_t k) {
         on_draft(SHOW_CALL, s, i, k);
     on_draft(BOARD_RECORD_CALL, k, i, 0);
     on_draft(BOARD_SPLIT_CALL, k, i, k - 1);
+    read_back(i, k);
 }
 
 // Every eighth prefix and the one past the draft, each with every k and those beside.
@@ -71,12 +85,16 @@ static void no_state(void) {
         on_draft(LIFT_CALL, letter, 0, 0);
 }
 
-// A state of random bytes, with n up to 2,048 and K of 1 to 9: 9 is no draft's. In every other one a feed looks at each
-// centre.
-static void any_state(size_t number, uint64_t *seed) {
-    uint8_t *bytes = (uint8_t *)&board;
-    for (size_t i = 0; i < sizeof board; i++)
+static void fill(uint8_t *bytes, size_t count, uint64_t *seed) {
+    for (size_t i = 0; i < count; i++)
         bytes[i] = (uint8_t)random_number(seed);
+}
+
+// A record and a state of random bytes, with n up to 2,048 and K of 1 to 9: 9 is no draft's. In every other one a feed
+// looks at each centre.
+static void any_state(size_t number, uint64_t *seed) {
+    fill(record, sizeof record, seed);
+    fill((uint8_t *)&board, sizeof board, seed);
     board.numbers[BOARD_N] = number % 2 ? BOARD_PICKS - 1 : random_number(seed) % (BOARD_PICKS + 1);
     board.numbers[BOARD_K] = 1 + random_number(seed) % (BOARD_SECTIONS + 1);
     board.numbers[BOARD_LONGEST] = number % 2 ? 1 : random_number(seed) % (BOARD_CENTRES + 1);
@@ -96,6 +114,8 @@ static void any_calls(uint64_t *seed) {
         {BOARD_LONGEST_CALL, 0, 0, 0},
         {BOARD_NEXT_CALL, 0, centre, 0},
         {LIFT_CALL, letter, 0, 0},
+        {UNFOLD_CALL, 0, BOARD_RECORD, BOARD_PICKS},
+        {SECTION_CALL, 0, BOARD_RECORD, 0},
         {BOARD_FEED_CALL, letter, 0, BOARD_VISITS},
         {BOARD_START_CALL, k, 0, 0},
     };
@@ -143,5 +163,7 @@ int main(void) {
     print_row(BOARD_RECORD_CALL, "folded record");
     print_row(SHOW_CALL, "show");
     print_row(LIFT_CALL, "lift");
+    print_row(UNFOLD_CALL, "unfold");
+    print_row(SECTION_CALL, "section of a record");
     return 0;
 }

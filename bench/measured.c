@@ -1,4 +1,4 @@
-// The ten calls through the inline functions of the header, and what is measured of each.
+// The calls through the inline functions of the header, and what is measured of each.
 #include "clock.h"
 
 #include "measured.h"
@@ -11,14 +11,16 @@ enum { REPETITIONS = 5 };
 
 struct board board;
 uint16_t list[BOARD_PICKS];
+uint8_t record[BOARD_RECORD];
 struct tally tallies[CALLS];
 
 static struct board before;
-static uint8_t output[BOARD_RECORD];
+static uint8_t output[BOARD_RECORD], picks[BOARD_PICKS];
 static struct asked current;
 static size_t given;
 
-// The calls through the header, each with what is asked at present. Each gives its number: 0 or the refusal.
+// The calls through the header, each with what is asked at present. Each gives its number: 0 or the refusal; section,
+// which has none, its turn.
 static void make_start(void) { given = board_start(&board, current.b).number; }
 static void make_feed(void) { given = board_feed(&board, current.b, list, current.m).number; }
 static void make_mask(void) { given = board_mask(&board, board_prefix(current.x)).number; }
@@ -33,6 +35,8 @@ static void make_record(void) {
 }
 static void make_show(void) { given = board_show(board.letters, current.x, list, current.m, current.b).number; }
 static void make_lift(void) { given = board_lift(current.b).number; }
+static void make_unfold(void) { given = board_unfold(record, current.x, picks, current.m).number; }
+static void make_section(void) { given = board_section_at(record, current.x, current.b).turn; }
 static void make_nothing(void) { given = 0; }
 
 // The library's functions alone: all that they are lent is off the stack.
@@ -47,6 +51,8 @@ static void show_alone(void) {
     given = drive_show(board.letters, current.x, list, current.m, current.b, output, 0, answers);
 }
 static void lift_alone(void) { given = drive_lift((uint8_t)current.b, answers); }
+static void unfold_alone(void) { given = drive_unfold(record, current.x, picks, current.m, answers); }
+static void section_alone(void) { given = drive_section(record, current.x, current.b, answers); }
 
 // Each call in both forms.
 static const struct {
@@ -58,6 +64,7 @@ static const struct {
     [BOARD_MASK_CALL] = {make_mask, drive_alone},   [BOARD_RADIUS_CALL] = {make_radius, drive_alone},
     [BOARD_NEXT_CALL] = {make_next, drive_alone},   [BOARD_RECORD_CALL] = {make_record, drive_alone},
     [SHOW_CALL] = {make_show, show_alone},          [LIFT_CALL] = {make_lift, lift_alone},
+    [UNFOLD_CALL] = {make_unfold, unfold_alone},    [SECTION_CALL] = {make_section, section_alone},
 };
 
 // The seconds of the quickest of a few calls, each from the state before: an interruption by the system is not counted.

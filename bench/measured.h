@@ -1,14 +1,14 @@
-// The ten calls, and what is measured of each.
+// The calls, and what is measured of each.
 #ifndef MEASURED_H
 #define MEASURED_H
 
 #include "board.h"
 
 // The calls that are given no state, numbered after those of a script.
-enum { SHOW_CALL = BOARD_CALLS, LIFT_CALL, CALLS };
+enum { SHOW_CALL = BOARD_CALLS, LIFT_CALL, UNFOLD_CALL, SECTION_CALL, CALLS };
 
-// What a call is asked on the state: the letter, K, k or the section; the prefix, the centre or the count of letters;
-// the entries or bytes that it is lent.
+// What a call is asked: the letter, K, k, the section or the place in the record; the prefix, the centre, or the count
+// of letters or of the record's bytes; the entries or bytes that it is lent.
 struct asked {
     int call;
     size_t b, x, m;
@@ -29,9 +29,10 @@ struct tally {
     double seconds[MOST_CASES];
 };
 
-// The state, and the list that calls are lent, which show takes as ends.
+// The state, the list that calls are lent, which show takes as ends, and the record that unfold and section are lent.
 extern struct board board;
 extern uint16_t list[BOARD_PICKS];
+extern uint8_t record[BOARD_RECORD];
 
 extern struct tally tallies[CALLS];
 

@@ -1,4 +1,5 @@
-// Feeds a draft and prints the mask after each pick, shows a split section by section, and writes the folded record.
+// Feeds a draft and prints the mask after each pick, shows a split section by section, writes the folded record and
+// reads it back.
 //   sections [DRAFT SECTIONS]    ABACDDC in 2 where left out
 #include "board.h"
 
@@ -11,6 +12,7 @@ static struct board board;
 static uint16_t visits[BOARD_VISITS];
 static uint16_t ends[BOARD_SECTIONS];
 static uint8_t record[BOARD_RECORD];
+static uint8_t picks[BOARD_PICKS];
 
 // Ends the program where a call was refused.
 static void check(const char *call, size_t number) {
@@ -47,11 +49,28 @@ static void show(const char *draft, size_t n, size_t k) {
     }
 }
 
-// Writes the folded record of the whole draft.
-static void write_record(size_t n, size_t k) {
+// Writes the folded record of the whole draft. Gives its count of bytes.
+static size_t write_record(size_t n, size_t k) {
     struct board_record_answer written = board_record(&board, board_prefix(n), k, record, BOARD_RECORD);
     check("record", written.number);
     fwrite(record, 1, written.bytes, stdout);
+    return written.bytes;
+}
+
+// Unfolds the record, and prints where the chain turns.
+static void read_record(size_t bytes) {
+    struct board_unfold_answer unfolded = board_unfold(record, bytes, picks, BOARD_PICKS);
+    check("unfold", unfolded.number);
+    printf("unfolded: ");
+    fwrite(picks, 1, unfolded.picks, stdout);
+    printf("\n");
+    struct board_reader reader = board_read(record, bytes);
+    struct board_section section = board_next_section(&reader);
+    while (section.turn != BOARD_NO_SECTION) {
+        const char *turn = section.turn == BOARD_ON_PICK ? "on" : "behind";
+        printf("%zu picks, turning %s pick %zu\n", section.length, turn, section.place.picks);
+        section = board_next_section(&reader);
+    }
 }
 
 int main(int count, char **arguments) {
@@ -60,6 +79,6 @@ int main(int count, char **arguments) {
     check("start", board_start(&board, BOARD_SECTIONS).number);
     feed(draft);
     show(draft, strlen(draft), k);
-    write_record(strlen(draft), k);
+    read_record(write_record(strlen(draft), k));
     return 0;
 }

@@ -80,6 +80,15 @@ size_t drive_show(const uint8_t *letters, size_t letters_len, const uint16_t *en
 // The lift of a letter. The answer: 0 and the lift, or 1 and the refusal.
 size_t drive_lift(uint8_t letter, size_t answer[2]);
 
+// Unfolds a record: its picks fill the front of the list. The answer: 0 and the count of picks; 1 and the refusal; or
+// 2, the refusal and its place.
+size_t drive_unfold(const uint8_t *record, size_t record_len, uint8_t *picks, size_t picks_len, size_t answer[3]);
+
+// The section that a reader yields at a place of a record. The answer: 0 for none, 1 for a turn on a pick, 2 for one
+// between two picks; its length; the turn's place; and the place of the next section. For none: 0, 0, 0 and the place
+// that was given.
+size_t drive_section(const uint8_t *record, size_t record_len, size_t at, size_t answer[4]);
+
 // A place in whole picks, and a centre in half picks: one never stands for the other.
 struct board_place {
     size_t picks;
@@ -99,7 +108,8 @@ static inline struct board_centre board_centre_at(size_t half_picks) {
     return centre;
 }
 
-// The answers. In each the number is 0, or that of the refusal or BOARD_NOT_MADE, and then all values are 0.
+// The answers. In each the number is 0, or that of the refusal or BOARD_NOT_MADE, and then all values are 0 but the
+// place that the refusal names.
 struct board_start_answer {
     size_t number;
 };
@@ -136,6 +146,29 @@ struct board_show_answer {
 struct board_lift_answer {
     size_t number;
     uint8_t lift;
+};
+struct board_unfold_answer {
+    size_t number;
+    size_t place; // of the byte that is refused, counted from 0; 0 where the number names none
+    size_t picks;
+};
+
+// The turn of a section: on a pick, or between two.
+enum board_turn { BOARD_NO_SECTION, BOARD_ON_PICK, BOARD_BETWEEN };
+
+// A section of a record. BOARD_NO_SECTION where there is none, and then length and place are 0.
+struct board_section {
+    enum board_turn turn;
+    size_t length;
+    struct board_place place; // the number of the turn's pick in the draft, or of the earlier of the two
+    size_t next;              // the next section's first byte; behind the last section the record's length
+};
+
+// A reader: a record, and the reader's place in it.
+struct board_reader {
+    const uint8_t *record;
+    size_t len;
+    size_t at;
 };
 
 // Scripts
@@ -299,6 +332,45 @@ static inline struct board_lift_answer board_lift(size_t letter) {
     else
         lift.lift = (uint8_t)answer[1];
     return lift;
+}
+
+// Unfold a record: its picks fill the front of the list.
+static inline struct board_unfold_answer board_unfold(const uint8_t *record, size_t len, uint8_t *picks,
+                                                      size_t entries) {
+    uint8_t no_byte = 0, no_pick = 0;
+    size_t answer[3] = {1, BOARD_NOT_MADE, 0};
+    struct board_unfold_answer unfolded = {0, 0, 0};
+    drive_unfold(record ? record : &no_byte, record ? len : 0, picks ? picks : &no_pick, picks ? entries : 0, answer);
+    if (answer[0]) {
+        unfolded.number = answer[1];
+        unfolded.place = answer[2];
+    } else {
+        unfolded.picks = answer[1];
+    }
+    return unfolded;
+}
+
+// The section of a record at a place, which is 0 or the section's first byte. None at any other place, and none of a
+// record that board_unfold refuses with 11 or 12; next is then the place that was given.
+static inline struct board_section board_section_at(const uint8_t *record, size_t len, size_t at) {
+    uint8_t no_byte = 0;
+    size_t answer[4] = {BOARD_NO_SECTION, 0, 0, at};
+    drive_section(record ? record : &no_byte, record ? len : 0, at, answer);
+    struct board_section section = {(enum board_turn)answer[0], answer[1], {answer[2]}, answer[3]};
+    return section;
+}
+
+// A reader of the record, before its first section.
+static inline struct board_reader board_read(const uint8_t *record, size_t len) {
+    struct board_reader reader = {record, len, 0};
+    return reader;
+}
+
+// The next section; BOARD_NO_SECTION behind the last one.
+static inline struct board_section board_next_section(struct board_reader *reader) {
+    struct board_section section = board_section_at(reader->record, reader->len, reader->at);
+    reader->at = section.next;
+    return section;
 }
 
 #ifdef __cplusplus

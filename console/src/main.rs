@@ -5,6 +5,7 @@ mod editor;
 mod lines;
 mod printed;
 mod session;
+mod stateless;
 mod words;
 
 use lines::Lines;

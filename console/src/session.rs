@@ -1,12 +1,13 @@
 //! The calls of the lines, made on one board.
 
 use crate::arrays::{lengths, peek, poke, store};
-use crate::printed::{answer, ok, refused, shown, text, Lent};
-use crate::words::{exact, letters, number, pick, words, Wrong};
-use board::{lift, show, Board, Centre, Place, VISITS};
+use crate::printed::{answer, ok, text, Lent};
+use crate::stateless::{lift_of, section_at, show_section};
+use crate::words::{bytes_of, number, pick, words, Wrong};
+use board::{unfold, Board, Centre, Place, Refusal, VISITS};
 
 /// How each call is written.
-const CALLS: [&str; 16] = [
+const CALLS: [&str; 18] = [
     "start K",
     "feed PICK [ENTRIES]",
     "picks LETTERS",
@@ -18,6 +19,8 @@ const CALLS: [&str; 16] = [
     "record I K [BYTES]",
     "show LETTERS S END..",
     "lift LETTER",
+    "unfold TEXT [BYTES]",
+    "section TEXT AT",
     "numbers [N K C]",
     "poke ARRAY INDEX VALUE",
     "peek [ARRAY INDEX]",
@@ -28,7 +31,7 @@ const CALLS: [&str; 16] = [
 /// The most entries of a list, or bytes of an output, that are lent.
 const MOST_LENT: usize = 65_535;
 
-/// The bytes of an output where the line does not say how many.
+/// The bytes of an output, or of a list of picks, where the line does not say how many.
 const OUTPUT: usize = 2_048;
 
 /// What each byte of an output holds before a call.
@@ -38,6 +41,11 @@ const BYTE: u8 = 42;
 fn list(entries: usize) -> Vec<u16> {
     let entry = |index| 60_000 + (index % 5_000) as u16;
     (0..entries.min(MOST_LENT)).map(entry).collect()
+}
+
+/// An output as it is before a call.
+fn output(bytes: usize) -> Vec<u8> {
+    vec![BYTE; bytes.min(MOST_LENT)]
 }
 
 /// The entries of a split's list where the line does not say how many: the k of the call, which is
@@ -86,8 +94,11 @@ impl Session {
             [b"split", i, k, entries] => self.split(number(i)?, number(k)?, number(entries)?),
             [b"record", i, k] => self.record(number(i)?, number(k)?, OUTPUT),
             [b"record", i, k, bytes] => self.record(number(i)?, number(k)?, number(bytes)?),
-            [b"show", word, s, ref ends @ ..] => section(&letters(word)?, number(s)?, ends)?,
+            [b"show", word, s, ref ends @ ..] => show_section(&bytes_of(word)?, number(s)?, ends)?,
             [b"lift", letter] => lift_of(pick(letter)?),
+            [b"unfold", word] => self.unfold(&bytes_of(word)?, OUTPUT),
+            [b"unfold", word, bytes] => self.unfold(&bytes_of(word)?, number(bytes)?),
+            [b"section", word, at] => section_at(&bytes_of(word)?, number(at)?),
             [b"numbers"] => ok(&self.board.state.numbers),
             [b"numbers", n, k, centre] => store(&mut self.board.state, [n, k, centre])?,
             [b"poke", name, at, value] => poke(&mut self.board.state, name, at, value)?,
@@ -114,7 +125,7 @@ impl Session {
 
     /// A feed for each letter.
     fn picks(&mut self, word: &[u8]) -> Result<Vec<String>, Wrong> {
-        let letters = letters(word)?;
+        let letters = bytes_of(word)?;
         let feeds = letters.into_iter().map(|pick| self.feed(pick, VISITS));
         Ok(feeds.collect())
     }
@@ -151,27 +162,23 @@ impl Session {
     }
 
     fn record(&mut self, i: usize, k: usize, bytes: usize) -> String {
-        let mut output = vec![BYTE; bytes.min(MOST_LENT)];
+        let mut output = output(bytes);
         let written = self.board.record(Place(i), k, &mut output);
-        let given = written.unwrap_or(0);
-        answer(
-            written.map(|bytes| vec![bytes]),
-            &Lent::Output(&output, given),
-            self.all,
-        )
+        self.filled(written, &output)
     }
-}
 
-/// The answer of show.
-fn section(letters: &[u8], s: usize, words: &[&[u8]]) -> Result<String, Wrong> {
-    let end = |word: &&[u8]| exact(word, u16::MAX.into()).map(|end| end as u16);
-    let ends: Vec<u16> = words.iter().map(end).collect::<Result<_, _>>()?;
-    Ok(show(letters, &ends, s).map_or_else(refused, shown))
-}
+    fn unfold(&self, record: &[u8], bytes: usize) -> String {
+        let mut picks = output(bytes);
+        let unfolded = unfold(record, &mut picks);
+        self.filled(unfolded, &picks)
+    }
 
-/// The answer of lift.
-fn lift_of(letter: u8) -> String {
-    lift(letter).map_or_else(refused, |lift| ok(&[lift.into()]))
+    /// The answer of a call that fills as many bytes of what it is lent as it says.
+    fn filled(&self, count: Result<usize, Refusal>, lent: &[u8]) -> String {
+        let given = count.unwrap_or(0);
+        let reply = count.map(|count| vec![count]);
+        answer(reply, &Lent::Output(lent, given), self.all)
+    }
 }
 
 /// Says what is wrong with words that are no call.

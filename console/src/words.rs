@@ -60,18 +60,18 @@ pub fn pick(word: &[u8]) -> Result<u8, Wrong> {
 
 /// The bytes of a text: `\n` is byte 10, `\xHH` any byte, `-` alone no byte at all, and every other
 /// byte stands for itself.
-pub fn letters(word: &[u8]) -> Result<Vec<u8>, Wrong> {
-    let mut letters = Vec::new();
+pub fn bytes_of(word: &[u8]) -> Result<Vec<u8>, Wrong> {
+    let mut bytes = Vec::new();
     let mut rest = if word == b"-" { b"" } else { word };
     while let Some((&first, behind)) = rest.split_first() {
         let (byte, behind) = match first {
             b'\\' => escaped(behind).ok_or_else(|| wrong_escape(rest))?,
             _ => (first, behind),
         };
-        letters.push(byte);
+        bytes.push(byte);
         rest = behind;
     }
-    Ok(letters)
+    Ok(bytes)
 }
 
 /// The byte that an escape stands for, and what is behind it; none where it is wrong.

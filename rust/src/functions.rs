@@ -38,4 +38,26 @@ extern "C" {
     /// The lift of a letter. The answer is 0 and the lift, or 1 and the refusal
     /// number.
     pub fn drive_lift(letter: u8, answer: *mut usize) -> usize;
+
+    /// Unfolds a record: its picks fill the front of the list. The answer is 0 and
+    /// the count of picks, 1 and the refusal number, or 2, the refusal number and its
+    /// place.
+    pub fn drive_unfold(
+        record: *const u8,
+        record_len: usize,
+        picks: *mut u8,
+        picks_len: usize,
+        answer: *mut usize,
+    ) -> usize;
+
+    /// The section that a reader yields at a place of a record. The answer is 0 for
+    /// none, 1 for a turn on a pick or 2 for one between two picks, the length, the
+    /// turn's place and the place of the next section; for none two zeros and the place
+    /// that was given.
+    pub fn drive_section(
+        record: *const u8,
+        record_len: usize,
+        at: usize,
+        answer: *mut usize,
+    ) -> usize;
 }

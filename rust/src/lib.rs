@@ -1,6 +1,6 @@
 //! The board of a dobby head: it takes a draft pick by pick and says after each whether the
-//! draft so far is k mirrored sections in a row, shows such a split, and writes the folded
-//! record. Each call is made by the proved static library.
+//! draft so far is k mirrored sections in a row, shows such a split, writes the folded record
+//! and reads it back. Each call is made by the proved static library.
 //!
 //! ```
 //! use board::{show, Board, Place, VISITS};
@@ -25,12 +25,14 @@
 
 mod calls;
 pub mod functions;
+mod reader;
 mod refusal;
 mod script;
 mod state;
 mod stateless;
 
 pub use calls::{Board, Taken};
+pub use reader::{section, unfold, Reader, Section, Turn};
 pub use refusal::{Refusal, Sentence, SENTENCES};
 pub use script::{ANSWER_NUMBERS, CALL_BYTES};
 pub use state::{

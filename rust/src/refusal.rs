@@ -15,6 +15,9 @@ use core::fmt::{self, Display, Formatter};
 ///     "refused with 2: the byte is not a letter A to Z; \
 ///      key a capital letter; a small one, a digit or a blank is refused"
 /// );
+/// let refusal = board::unfold(b"7x", &mut []).unwrap_err();
+/// assert_eq!(refusal.place(), Some(1));
+/// assert!(refusal.to_string().starts_with("refused with 11 at place 1: "));
 /// ```
 #[derive(Clone, Copy, Debug, PartialEq, Eq)]
 pub struct Refusal {
@@ -32,7 +35,7 @@ pub struct Sentence {
 }
 
 /// The sentences of the numbers, from 1 on.
-pub const SENTENCES: [Sentence; 10] = [
+pub const SENTENCES: [Sentence; 12] = [
     Sentence {
         means: "K is not 1 to 8, or k is not 1 to K",
         remedy: "start with a K of 1 to 8; ask for at most K sections",
@@ -50,8 +53,8 @@ pub const SENTENCES: [Sentence; 10] = [
         remedy: "look at the count of picks first",
     },
     Sentence {
-        means: "the record is longer than the output",
-        remedy: "lend more bytes: 7 for each section, half the picks and 8 more always do",
+        means: "the record is longer than the output, or the list has fewer entries than the record has picks",
+        remedy: "lend more bytes: for a record 7 for each section, half the picks and 8 more always do, for picks as many as the record says",
     },
     Sentence {
         means: "the ends do not rise from above 0 to the number of letters",
@@ -73,15 +76,31 @@ pub const SENTENCES: [Sentence; 10] = [
         means: "no ending has this centre, or it is the empty one's",
         remedy: "begin with the longest ending's centre",
     },
+    Sentence {
+        means: "the bytes are not a folded record, from the place given on",
+        remedy: "look at that byte of the record, counted from 0: a number may be out of its range, or the record ends too early",
+    },
+    Sentence {
+        means: "the lengths of the record's sections do not add up to its picks",
+        remedy: "compare the record with the one that it was copied from",
+    },
 ];
 
 impl Refusal {
-    /// The refusal under a number that the library gave. None of its numbers names a place.
+    /// The refusal under a number that the library gave without a place.
     pub(crate) fn under(number: usize) -> Refusal {
         assert!((1..=SENTENCES.len()).contains(&number), "number {number}");
         Refusal {
             number: number as u8,
             place: None,
+        }
+    }
+
+    /// The refusal under a number that the library gave with a place.
+    pub(crate) fn at(number: usize, place: usize) -> Refusal {
+        Refusal {
+            place: Some(place),
+            ..Refusal::under(number)
         }
     }
 

@@ -1,4 +1,4 @@
-// A library whose `drive` knows no call, as one that is older than the header knows no later one: each function of the
+// A library whose functions know no call, as one that is older than the header knows no later one: each function of the
 // header says so, and gives no value.
 #include "board.h"
 
@@ -13,6 +13,16 @@ size_t drive(uint8_t letters[BOARD_PICKS], uint16_t centres[BOARD_CENTRE_LANES][
     return 0;
 }
 
+size_t drive_unfold(const uint8_t *record, size_t record_len, uint8_t *picks, size_t picks_len, size_t answer[3]) {
+    (void)record, (void)record_len, (void)picks, (void)picks_len, (void)answer;
+    return 0;
+}
+
+size_t drive_section(const uint8_t *record, size_t record_len, size_t at, size_t answer[4]) {
+    (void)record, (void)record_len, (void)at, (void)answer;
+    return 0;
+}
+
 static struct board board;
 static uint16_t list[BOARD_VISITS];
 static uint8_t output[BOARD_RECORD];
@@ -24,6 +34,9 @@ int main(void) {
     struct board_centre_answer longest = board_longest(&board), next = board_next(&board, board_centre_at(1));
     struct board_split_answer split = board_split(&board, board_prefix(1), 1, list, BOARD_VISITS);
     struct board_record_answer record = board_record(&board, board_prefix(1), 1, output, BOARD_RECORD);
+    const uint8_t folded[] = {'1', ',', '1', ',', '1', ',', 'A', '\n'};
+    struct board_unfold_answer unfolded = board_unfold(folded, sizeof folded, output, BOARD_RECORD);
+    struct board_section section = board_section_at(folded, sizeof folded, 4);
     printf("start %zu\n", board_start(&board, 8).number);
     printf("feed %zu %d %zu\n", fed.number, fed.mask, fed.visits);
     printf("mask %zu %d\n", mask.number, mask.mask);
@@ -32,5 +45,7 @@ int main(void) {
     printf("next %zu %zu\n", next.number, next.centre.half_picks);
     printf("split %zu %zu\n", split.number, split.turns);
     printf("record %zu %zu\n", record.number, record.bytes);
+    printf("unfold %zu %zu %zu\n", unfolded.number, unfolded.place, unfolded.picks);
+    printf("section %d %zu %zu %zu\n", section.turn, section.length, section.place.picks, section.next);
     return 0;
 }

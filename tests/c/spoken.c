@@ -11,6 +11,9 @@
 // that is said of a null pointer; the most ends of a show; the longest line.
 enum { MOST_PRINTED = 65535, MOST_LENT = 70000, SAID_OF_NULL = 2048, MOST_ENDS = 4096, MOST_LINE = 1 << 16 };
 
+// The number of the refusal that names a place.
+enum { NOT_A_RECORD = 11 };
+
 static struct board board;
 
 // The next word of the line; a null pointer where there is none.
@@ -42,6 +45,38 @@ static uint16_t *lend_list(size_t entries) {
     for (size_t i = 0; i < entries; i++)
         list[i] = (uint16_t)(60000 + i % 5000);
     return list;
+}
+
+// A text of the line, as it is lent.
+struct text {
+    uint8_t *bytes;
+    size_t length;
+};
+
+// The byte that a text begins with: `\n` is byte 10, `\xHH` any byte. Moves the text behind it.
+static uint8_t next_byte(const char **text) {
+    const char *first = *text;
+    int is_line_end = !strncmp(first, "\\n", 2), is_hex = !strncmp(first, "\\x", 2);
+    char digits[3] = "";
+    *text += is_line_end ? 2 : is_hex ? 4 : 1;
+    if (!is_hex)
+        return is_line_end ? 10 : (uint8_t)*first;
+    memcpy(digits, first + 2, 2);
+    return (uint8_t)strtoul(digits, NULL, 16);
+}
+
+// The bytes of the next word; `-` alone is none.
+static struct text lend_text(void) {
+    static uint8_t read[MOST_LINE];
+    struct text text = {NULL, 0};
+    const char *rest = word();
+    if (strcmp(rest, "-"))
+        while (*rest)
+            read[text.length++] = next_byte(&rest);
+    text.bytes = (uint8_t *)lend(text.length);
+    if (text.length)
+        memcpy(text.bytes, read, text.length);
+    return text;
 }
 
 static uint8_t *lend_output(size_t bytes) {
@@ -133,22 +168,19 @@ static void record(void) {
 }
 
 static void show(void) {
-    const char *text = word();
-    size_t length = strcmp(text, "-") ? strlen(text) : 0, s = number(), count = 0;
+    struct text letters = lend_text();
+    size_t s = number(), count = 0;
     uint16_t read[MOST_ENDS];
     for (const char *end = word(); end && count < MOST_ENDS; end = word())
         read[count++] = (uint16_t)strtoul(end, NULL, 10);
-    uint8_t *letters = (uint8_t *)lend(length);
     uint16_t *ends = lend_list(count);
-    if (length)
-        memcpy(letters, text, length);
     if (count)
         memcpy(ends, read, count * sizeof *ends);
-    struct board_show_answer answer = board_show(letters, said(length), ends, said(count), s);
+    struct board_show_answer answer = board_show(letters.bytes, said(letters.length), ends, said(count), s);
     print_number(answer.number, answer.len != 0);
     if (!answer.number)
         print_text(answer.part, answer.len);
-    free(letters);
+    free(letters.bytes);
     free(ends);
 }
 
@@ -157,11 +189,52 @@ static void lift(void) {
     print_value(answer.number, answer.lift);
 }
 
+// The place that a refusal with 11 names is printed, and so is a place where none is named.
+static void unfold(void) {
+    struct text record = lend_text();
+    size_t entries = least(number_or(2048), MOST_LENT);
+    uint8_t *picks = lend_output(entries);
+    struct board_unfold_answer answer = board_unfold(record.bytes, said(record.length), picks, said(entries));
+    print_value(answer.number, answer.picks);
+    if (answer.number == NOT_A_RECORD || answer.place)
+        printf(" %zu", answer.place);
+    print_text(picks, entries);
+    free(record.bytes);
+    free(picks);
+}
+
+static int is_same(struct board_section a, struct board_section b) {
+    return a.turn == b.turn && a.length == b.length && a.place.picks == b.place.picks && a.next == b.next;
+}
+
+// Whether the reader yields this section; where it is none, whether the reader yields all sections and then none.
+static int yields(struct board_reader reader, struct board_section section) {
+    for (size_t read = 0; read < BOARD_SECTIONS; read++)
+        if (is_same(board_next_section(&reader), section))
+            return 1;
+    return section.turn == BOARD_NO_SECTION && board_next_section(&reader).turn == BOARD_NO_SECTION;
+}
+
+static void section(void) {
+    struct text record = lend_text();
+    size_t at = number(), said_length = said(record.length);
+    struct board_section section = board_section_at(record.bytes, said_length, at);
+    if (section.turn == BOARD_NO_SECTION)
+        printf(section.length || section.place.picks || section.next != at ? "none and a value" : "ok none");
+    else
+        printf("ok %zu %s %zu %zu", section.length, section.turn == BOARD_ON_PICK ? "on" : "between",
+               section.place.picks, section.next);
+    if (!yields(board_read(record.bytes, said_length), section))
+        printf(" and another by the reader");
+    free(record.bytes);
+}
+
 static const struct {
     const char *word;
     void (*answer)(void);
-} calls[] = {{"start", start}, {"feed", feed},   {"mask", mask},     {"radius", radius}, {"longest", longest},
-             {"next", next},   {"split", split}, {"record", record}, {"show", show},     {"lift", lift}};
+} calls[] = {{"start", start},     {"feed", feed}, {"mask", mask},     {"radius", radius},
+             {"longest", longest}, {"next", next}, {"split", split},   {"record", record},
+             {"show", show},       {"lift", lift}, {"unfold", unfold}, {"section", section}};
 
 int main(void) {
     static char line[MOST_LINE];

@@ -1,4 +1,4 @@
-//! The ten calls of document 01, with their refusals.
+//! The twelve calls of document 01 and of request 2.1, with their refusals.
 //!
 //! "Each call that is given a state, other than start, tests 7 first; every call
 //! then tests those input numbers whose inputs it has, in rising order but for 5,
@@ -8,6 +8,7 @@
 mod asking;
 mod feeding;
 mod lifting;
+mod reading;
 mod showing;
 mod splitting;
 mod state;
@@ -15,6 +16,7 @@ mod state;
 pub use asking::{longest_centre, mask_of_prefix, next_centre, radius_at};
 pub use feeding::{feed, start, Taken};
 pub use lifting::lift;
+pub use reading::{section_at, unfold, Section};
 pub use showing::{show, show_number};
 pub use splitting::{folded_record, split};
 pub use state::State;
@@ -22,8 +24,12 @@ pub use state::State;
 /// A call's values, or the number it is refused with.
 pub type Answer<T> = Result<T, Refusal>;
 
-/// A refusal number, 1 to 10.
+/// A refusal number, 1 to 12.
 pub type Refusal = u8;
+
+/// A refusal of a call that reads a record: "a place coming beside the number where one
+/// is named".
+pub type Placed = (Refusal, Option<usize>);
 
 /// 1: K outside 1 to 8, or k outside 1 to K.
 const SECTIONS_OUT_OF_RANGE: Refusal = 1;
@@ -38,7 +44,7 @@ const LIST_TOO_SHORT: Refusal = 3;
 /// ends.
 const PLACE_OUT_OF_RANGE: Refusal = 4;
 
-/// 5: record longer than the lent output.
+/// 5: record longer than the lent output, or a list too short for the picks.
 const OUTPUT_TOO_SHORT: Refusal = 5;
 
 /// 6: ends not rising strictly from above 0 to exactly the number of lent letters.
@@ -56,6 +62,12 @@ const NO_SPLIT: Refusal = 9;
 /// 10: the centre belongs to no ending, or to the empty one, when the next shorter
 /// is sought.
 const NO_ENDING_THERE: Refusal = 10;
+
+/// 11: the bytes are not of the record's layout.
+const NOT_A_RECORD: Refusal = 11;
+
+/// 12: lengths not adding up to the picks.
+const LENGTHS_NOT_THE_PICKS: Refusal = 12;
 
 /// The refusal number when its line is met.
 fn refuse_if(met: bool, number: Refusal) -> Answer<()> {

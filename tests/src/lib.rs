@@ -3,26 +3,30 @@
 //!
 //! `plain` holds each definition literally on slices, slow and obvious.
 //! `fast` answers the same questions for drafts of 2,048 picks by tables.
-//! `calls` holds the ten calls with their refusals, and `book` the plain book.
+//! `calls` holds the twelve calls with their refusals, and `book` the plain book.
+//! `fields` reads a record field by field.
 //! `draft` is the draft program as a function from bytes to bytes, and `spoken` the
 //! console as one from a line to the lines that answer it.
 //! `samples` and `structured` make the drafts that tests are run on, and `full_drafts`
-//! names those of 2,048 picks.
+//! names those of 2,048 picks; `records` makes records.
 //! `scripted` names the calls with their arguments, and `library` makes them on the
 //! proved board, by its static library.
-//! `beside` keeps the book beside that board, and `listed` holds the refusals that do
-//! not hang on the letters.
+//! `beside` keeps the book beside that board, `readings` compares how both read a
+//! record, and `listed` holds the refusals that do not hang on the letters.
 
 pub mod beside;
 pub mod book;
 pub mod calls;
 pub mod draft;
 pub mod fast;
+pub mod fields;
 pub mod full_drafts;
 pub mod library;
 pub mod listed;
 mod memo;
 pub mod plain;
+pub mod readings;
+pub mod records;
 pub mod samples;
 pub mod scripted;
 pub mod spoken;

@@ -9,10 +9,12 @@
 mod board;
 mod calling;
 mod guarded;
+mod reading;
 mod running;
 mod stateless;
 
 pub use self::board::Board;
 pub use ::board::{CENTRES, GATHERED, HEADS, LENDS, NEXT, PLACES, PREV, RADIUS, ROWS};
+pub use reading::{section_at, unfold};
 pub use running::{Lent, ANSWER_NUMBERS, UNSET};
 pub use stateless::{lift, show};

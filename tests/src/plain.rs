@@ -6,12 +6,14 @@
 mod centres;
 mod endings;
 mod gathered;
+mod layout;
 mod picks;
 mod record;
 mod rows;
 mod show;
 mod splits;
 mod stretch;
+mod unfolding;
 
 pub use centres::{longest_centre, next_centre, radius_at};
 pub use endings::{
@@ -19,9 +21,11 @@ pub use endings::{
     next_shorter_leading, visits,
 };
 pub use gathered::{gathered_places, gathered_word};
+pub use layout::break_place;
 pub use picks::{is_pick, lift};
 pub use record::folded_record;
 pub use rows::{is_joined, is_most_sections, mask, row_word};
 pub use show::section;
 pub use splits::{all_splits, named_split, section_lengths};
 pub use stretch::{centre, is_mirrored, is_period, is_section, least_period, periods, radius};
+pub use unfolding::{turn, unfolded, Turn};

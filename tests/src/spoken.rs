@@ -8,6 +8,7 @@ mod asked;
 mod expected;
 mod lent;
 mod lines;
+mod stateless;
 mod text;
 mod words;
 
@@ -16,13 +17,14 @@ use crate::listed::listed;
 use crate::LINE_END;
 use arrays::Known;
 use asked::Asked;
-use expected::{ok, refused};
+use expected::ok;
 use lines::Line;
-use text::text_of;
+use stateless::{lifted, shown, unfolded, yielded};
 
 pub use arrays::{Array, ARRAYS};
 pub use expected::Expected;
 pub use lines::WORDS;
+pub use text::text_of;
 
 /// The console: the stored state; the stored centre, where it is known; whether a run
 /// made them; what is known of the arrays; whether `--all` is set; whether it has ended.
@@ -71,6 +73,8 @@ impl Console {
             Line::Help => return Expected::Help,
             Line::Show { letters, s, ends } => shown(&letters, &ends, s),
             Line::Lift(letter) => lifted(letter),
+            Line::Unfold { record, bytes } => unfolded(&record, bytes, self.all),
+            Line::Section { record, at } => yielded(&record, at),
             Line::Lengths => lengths(),
             Line::Store([n, most_sections, longest]) => {
                 (self.state.n, self.state.most_sections) = (n, most_sections);
@@ -139,22 +143,6 @@ impl Console {
             Some(longest) => Expected::Line(ok(&[n, most_sections, longest])),
             None => Expected::Values(3),
         }
-    }
-}
-
-/// "Show answers `ok | PART`"; refused, it is lent no list and no output.
-fn shown(letters: &[u8], ends: &[u16], s: usize) -> String {
-    match calls::show_number(letters, ends, s) {
-        0 => format!("ok | {}", text_of(calls::show(letters, ends, s))),
-        number => refused(number),
-    }
-}
-
-/// The lift of a letter.
-fn lifted(letter: u8) -> String {
-    match calls::lift(letter) {
-        Ok(lift) => ok(&[lift.into()]),
-        Err(number) => refused(number),
     }
 }
 

@@ -14,7 +14,7 @@ use comparison::samples::repeated;
 use comparison::MOST_PICKS;
 use console::compare;
 use console_session::compare_session;
-use far_places::assert_far_are_refused;
+use far_places::assert_far_are_not_cut;
 use refusals::refusals;
 
 /// "Drafts at the edges", K = 8, with document 01's numbers.
@@ -110,7 +110,7 @@ fn far(number: u128) -> Vec<String> {
 #[test]
 fn arguments_beyond_their_fields() {
     for all in [false, true] {
-        assert_far_are_refused("start 8\npicks ABACDDC\n", far, |input| compare(all, input));
+        assert_far_are_not_cut("start 8\npicks ABACDDC\n", far, |input| compare(all, input));
     }
 }
 
@@ -139,6 +139,7 @@ fn sizes_beyond_their_fields() {
     let mut input = String::from("start 8\npicks ABACDDC\n");
     for far in far(0) {
         input += &format!("split 7 2 {far}\nrecord 7 2 {far}\nfeed A {far}\n");
+        input += &format!("unfold 7,2,3,AB,4,CD\\n {far}\n");
     }
     let answers = compare(false, input);
     let refused = answers.iter().find(|answer| !answer.starts_with("ok"));

@@ -39,7 +39,7 @@ fn assert_no_calls_with(places: &[&str], words: &[&str]) {
 }
 
 /// Every place of a number.
-const NUMBERS: [&str; 20] = [
+const NUMBERS: [&str; 22] = [
     "start N",
     "feed A N",
     "mask N",
@@ -54,6 +54,8 @@ const NUMBERS: [&str; 20] = [
     "show A N 1",
     "show A 1 N",
     "show AB 1 1 N",
+    r"unfold 1,1,1,A\n N",
+    r"section 1,1,1,A\n N",
     "numbers N 1 1",
     "numbers 1 N 1",
     "numbers 1 1 N",

@@ -27,7 +27,7 @@ fn assert_next(process: &mut Process, answer: &str) {
 }
 
 /// Lines of each kind of answer.
-const LINES: [&str; 12] = [
+const LINES: [&str; 14] = [
     "numbers",
     "start 8",
     "feed A",
@@ -35,6 +35,8 @@ const LINES: [&str; 12] = [
     "split 4 4",
     "nothing",
     "show AB 1 1 2",
+    r"section 1,1,1,A\n 0",
+    "unfold 7x",
     "picks -",
     "longest",
     "help",

@@ -55,6 +55,8 @@ fn other_drafts() {
         "1 sections, 1 turns",
         "section 1: A",
         "1,1,1,A",
+        "unfolded: A",
+        "1 picks, turning on pick 1",
         "",
     ];
     assert_printed(&["A", "1"], &lines.join("\n"), 0);
@@ -62,10 +64,14 @@ fn other_drafts() {
     let output = Command::new(&SECTIONS[1]).args([&draft, "8"]).output();
     let printed = String::from_utf8(output.expect("the program runs").stdout).expect("text");
     let record = format!(
-        "2048,8,1,A,1,A,1,A,1,A,1,A,1,A,1,A,2041,{}\n",
+        "\n2048,8,1,A,1,A,1,A,1,A,1,A,1,A,1,A,2041,{}\nunfolded: {draft}\n",
         "A".repeat(1_021)
     );
-    assert!(printed.ends_with(&record), "{printed}");
+    assert!(printed.contains(&record), "{printed}");
+    assert!(
+        printed.ends_with("\n2041 picks, turning on pick 1028\n"),
+        "{printed}"
+    );
 }
 
 /// A refusal is named, and ends the program with status 1.

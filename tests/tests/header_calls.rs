@@ -19,9 +19,11 @@ use answered::{assert_answered, end_of};
 use c_program::program;
 use call_lines::{session, some_call};
 use comparison::full_drafts::of_each_kind;
+use comparison::records::{fields_of, record_of};
 use comparison::samples::Generator;
+use comparison::spoken::text_of;
 use comparison::MOST_PICKS;
-use far_places::assert_far_are_refused;
+use far_places::assert_far_are_not_cut;
 use process::Process;
 use std::io::Write;
 use std::path::{Path, PathBuf};
@@ -33,11 +35,17 @@ use transcript::assert_session;
 const SOURCE: &str = "c/spoken.c";
 
 /// The calls in C, with the sanitizers, and with a function before each of the library's
-/// that takes no null pointer.
+/// that takes no null pointer and no slice beyond its memory.
 static IN_C: LazyLock<PathBuf> = LazyLock::new(|| {
     let sanitized = "gcc -std=c11 -O1 -g -fsanitize=address,undefined -fno-sanitize-recover";
-    let not_null = "-Wl,--wrap=drive,--wrap=drive_show c/not_null.c";
-    program(&format!("{sanitized} {not_null}"), SOURCE, "header_calls_c")
+    let wraps = ["drive", "drive_show", "drive_unfold", "drive_section"]
+        .map(|function| format!("-Wl,--wrap={function}"))
+        .join(" ");
+    program(
+        &format!("{sanitized} {wraps} c/not_null.c"),
+        SOURCE,
+        "header_calls_c",
+    )
 });
 
 /// Runs the program on the lines; it answers what the function answers. Gives the
@@ -97,10 +105,11 @@ fn far(number: u128) -> [String; 4] {
 #[test]
 fn arguments_beyond_the_fields() {
     let opening = format!("start 8\n{}", feeds(b"ABACDDC"));
-    assert_far_are_refused(&opening, far, |input| compare(&IN_C, input));
+    assert_far_are_not_cut(&opening, far, |input| compare(&IN_C, input));
     let mut input = opening;
     for far in far(0) {
         input += &format!("split 7 2 {far}\nrecord 7 2 {far}\nfeed 65 {far}\n");
+        input += &format!("unfold 7,2,3,AB,4,CD\\n {far}\n");
     }
     let answers = compare(&IN_C, &input);
     let refused = answers.iter().find(|answer| !answer.starts_with("ok"));
@@ -120,6 +129,17 @@ fn full_drafts() {
     }
 }
 
+/// Records of 2,048 picks.
+#[test]
+fn full_records() {
+    for lengths in [&[MOST_PICKS][..], &[1, 1, 1, 1, 1, 1, 1, 2_041]] {
+        let record = text_of(&record_of(&fields_of(lengths)));
+        let input = format!("unfold {record}\nunfold {record} 2047\nsection {record} 0\n");
+        let answers = compare(&IN_C, &input);
+        assert!(answers[0].starts_with("ok 2048 | "), "{}", answers[0]);
+    }
+}
+
 /// Over a library that has none of the calls no function of the header is accepted.
 #[test]
 fn a_library_without_the_calls() {
@@ -134,6 +154,8 @@ fn a_library_without_the_calls() {
         "next 255 0",
         "split 255 0",
         "record 255 0",
+        "unfold 255 0 0",
+        "section 0 0 0 4",
         "",
     ];
     let printed = String::from_utf8_lossy(&output.stdout);

@@ -120,6 +120,36 @@ fn the_header_and_the_package_are_those_of_the_sources() {
     assert_eq!(refusal(&sources, "as_they_are"), None);
 }
 
+/// The functions that are given no state, declared in C as the sources have them.
+fn stateless(sources: &str) -> Vec<String> {
+    let declared = declarations(sources);
+    let lines = declared.lines().map(String::from);
+    lines
+        .filter(|line| line.starts_with("size_t drive_"))
+        .collect()
+}
+
+/// Those of them that the header has otherwise, or not at all.
+fn undeclared(sources: &str) -> Vec<String> {
+    let header = read_to_string("../include/board.h").expect("the header");
+    let header = header.split_whitespace().collect::<Vec<_>>().join(" ");
+    let mut functions = stateless(sources);
+    functions.retain(|function| !header.contains(function));
+    functions
+}
+
+/// The header has each function that is given no state, word for word: a C compiler does
+/// not hold the length of an answer to anything.
+#[test]
+fn the_answers_are_as_long_as_in_the_sources() {
+    let sources = sources();
+    let count = stateless(&sources).len();
+    assert_eq!(count, 4, "show, lift, unfold and section");
+    assert_eq!(undeclared(&sources), [""; 0]);
+    let (old, new) = ("answer: &mut [usize; 4]", "answer: &mut [usize; 3]");
+    assert_eq!(undeclared(&changed(&sources, old, new)).len(), 1);
+}
+
 /// A copy of the sources with one text in place of the other, which stands there once.
 fn changed(sources: &str, old: &str, new: &str) -> String {
     assert_eq!(sources.matches(old).count(), 1, "{old} in the sources");

@@ -82,6 +82,42 @@ fn every_call_is_explained() {
     }
 }
 
+/// The texts in backticks.
+fn quoted(cell: &str) -> impl Iterator<Item = &str> {
+    cell.split('`').skip(1).step_by(2)
+}
+
+/// Whether the sources in Rust have a public function or struct of this name.
+fn has_public(sources: &str, name: &str) -> bool {
+    let declared = ["fn", "struct"].map(|kind| format!("pub {kind} {name}"));
+    let mut behind = declared.iter().flat_map(|text| sources.split(text).skip(1));
+    behind.any(|text| text.starts_with(['(', '<', ' ']))
+}
+
+/// The first table of docs/HOSTS.md names what C, Rust and the console have.
+#[test]
+fn the_table_of_the_calls_names_what_there_is() {
+    let header = "| Call | C, `include/board.h` | Rust, package `board` | Console |";
+    let table = rows(&file("docs/HOSTS.md"), header);
+    assert!(table.len() > 10, "{} calls", table.len());
+    let in_c = file("include/board.h");
+    let in_rust = ["calls", "reader", "stateless"].map(|name| file(&format!("rust/src/{name}.rs")));
+    let in_rust = in_rust.concat();
+    let help = file("console/help.txt");
+    for [call, c, rust, console] in table.iter().map(|row| row.first_chunk().expect("a row")) {
+        for name in quoted(c) {
+            assert!(in_c.contains(&format!(" {name}(")), "{call}: {name} in C");
+        }
+        for name in quoted(rust) {
+            let name = name.trim_start_matches("Board::");
+            assert!(has_public(&in_rust, name), "{call}: {name} in Rust");
+        }
+        for word in quoted(console) {
+            assert!(help.contains(&format!("\n  {word} ")), "{call}: {word}");
+        }
+    }
+}
+
 /// A call whose words may all be left out together has a line with them and one without.
 fn ways_to_write(call: &str) -> Vec<String> {
     match call.split_once(" [") {

@@ -24,11 +24,20 @@ fn listed() -> Vec<(String, Vec<String>)> {
 
 /// The drawing: an arrow for each crate that is stood on straight, not by way of another.
 fn drawing(crates: &[(String, Vec<String>)]) -> String {
-    let below = |name: &str| crates.iter().find(|(other, _)| other == name).map(|(_, below)| below);
+    let below = |name: &str| {
+        crates
+            .iter()
+            .find(|(other, _)| other == name)
+            .map(|(_, below)| below)
+    };
     let mut text = String::from("graph BT\n");
     for (name, all) in crates {
         let ours: Vec<_> = all.iter().filter(|other| below(other).is_some()).collect();
-        let straight = |other: &String| !ours.iter().any(|way| below(way).is_some_and(|all| all.contains(other)));
+        let straight = |other: &String| {
+            !ours
+                .iter()
+                .any(|way| below(way).is_some_and(|all| all.contains(other)))
+        };
         let mut arrows = ours.iter().filter(|other| straight(other)).peekable();
         if arrows.peek().is_none() {
             text += &format!("    {name}\n");
@@ -43,11 +52,21 @@ fn drawing(crates: &[(String, Vec<String>)]) -> String {
 #[test]
 fn the_drawing_is_that_of_crates_txt() {
     let crates = listed();
-    assert!(crates.len() > 10, "crates.txt lists {} crates", crates.len());
+    assert!(
+        crates.len() > 10,
+        "crates.txt lists {} crates",
+        crates.len()
+    );
     let readme = root_file("README.md");
-    let (_, rest) = readme.split_once("```mermaid\n").expect("README.md has no drawing");
+    let (_, rest) = readme
+        .split_once("```mermaid\n")
+        .expect("README.md has no drawing");
     let (drawn, _) = rest.split_once("```").expect("the drawing has no end");
-    assert_eq!(drawn, drawing(&crates), "the drawing in README.md should be as on the right");
+    assert_eq!(
+        drawn,
+        drawing(&crates),
+        "the drawing in README.md should be as on the right"
+    );
 }
 
 #[test]

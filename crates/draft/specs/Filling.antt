@@ -19,12 +19,12 @@ use Rattle.text.specs.Definitions.{lineEnd, digitZero}
 use Rattle.promises.specs.declared.Draft.{Draft}
 use Rattle.promises.specs.declared.Started.{Started}
 use Rattle.promises.specs.declared.FeedAnswer.{FeedAnswer}
-use Rattle.promises.specs.Answers.{Said, gave, refused, feedSays}
-use Rattle.promises.specs.Refusals.{between, startRefusal, feedRefusal}
+use Rattle.promises.specs.Answers.{Said, gave, refused, refusedAt, feedSays}
+use Rattle.promises.specs.Refusals.{startRefusal, feedRefusal}
 use Rattle.promises.specs.Book.{Book, book, feed, lent, write, fedRow}
 use Rattle.promises.specs.Replies.{refusalOf, foundFor, replyTo}
 use Rattle.promises.specs.BookLaws.{Case, taken, left, feed-cases, unless-zero, unless-not}
-use Rattle.promises.specs.RefusalLaws.{between-true}
+use Rattle.words.specs.Ranges.{between, between-true}
 use Rattle.promises.specs.State.{numbersOf, withPick}
 use Rattle.promises.specs.Holds.{Holds}
 use Rattle.promises.specs.WritingLaws.{start-holds}
@@ -45,6 +45,7 @@ endingLength n centre = 2 * n + 1 - centre
 abbrev pub isRefused : Said → Bool
 isRefused (gave values) = false
 isRefused (refused number) = true
+isRefused (refusedAt number place) = true
 
 -- n picks were there; line is what stands in its room afterwards
 pub record Tells (n : ℕ) (s : Step) (t : Answered) (line : List ℕ) : Type 0 where
@@ -187,7 +188,7 @@ between-digits : (x : ℕ) → between (digitZero + 1) (digitZero + mostSections
 unfolding startRefusal
 between-digits x e =
     let l = between-true (digitZero + 1) (digitZero + mostSections) x e in
-    simp (le-leb 1 (x - digitZero) (omega (arith, l .0)), le-leb (x - digitZero) mostSections (omega (arith, l .1)))
+    simp (le-leb 1 (x - digitZero) (omega (arith, l .low)), le-leb (x - digitZero) mostSections (omega (arith, l .high)))
 
 -- a start under the digit's K, on whatever was stored, and then the picks behind the first line
 pub output-right : {d : Draft} {r : Started} (input lines : List ℕ) → goodFirstLine input ≡ true → StartPromise d (getD input 0 0 - digitZero) r

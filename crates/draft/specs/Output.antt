@@ -7,9 +7,9 @@ use lib.Dec.{eqb}
 use lib.ListN.{length, getD, drop, replicate}
 use Rattle.words.specs.Definitions.{mostSections, mostVisits, word}
 use Rattle.words.specs.Computed.{longest}
+use Rattle.words.specs.Ranges.{between}
 use Rattle.text.specs.Definitions.{lineEnd, digitZero}
-use Rattle.promises.specs.Answers.{Said, gave, refused}
-use Rattle.promises.specs.Refusals.{between}
+use Rattle.promises.specs.Answers.{Said, gave, refused, refusedAt}
 use Rattle.promises.specs.Book.{Book, book, feed, feedTaken, write, fedRow}
 use Rattle.promises.specs.Replies.{replyTo}
 use Rattle.draft.specs.Lines.{headerLine, pickLine, refusalLine}
@@ -23,6 +23,7 @@ unfoldable pub lineOf : (n picks longest : ℕ) → Said → List ℕ
 unfolding pickLine refusalLine
 lineOf n picks longest (gave values) = pickLine picks (getD values 0 0) (getD values 1 0) longest
 lineOf n picks longest (refused number) = refusalLine number (firstLine + n)
+lineOf n picks longest (refusedAt number place) = refusalLine number (firstLine + n)
 
 -- the program lends a visit list of 19 zeros
 abbrev pub visitList : List ℕ

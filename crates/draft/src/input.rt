@@ -4,7 +4,7 @@ ghost use mathlib.Core.Bool.{cond};
 ghost use Prim.Native.Nat.{_+_, _-_};
 ghost use Rattle.words.specs.Definitions.{mostSections};
 ghost use Rattle.text.specs.Definitions.{digitZero};
-ghost use Rattle.promises.specs.Refusals.{between};
+ghost use Rattle.words.specs.Ranges.{between};
 use libc::STDIN_FILENO;
 use text::DIGIT_ZERO;
 use text::LINE_END;

@@ -6,7 +6,7 @@ use lib.ListN.{length, getD}
 use Rattle.cells.specs.Lanes.{byCentre, byPlace}
 use Rattle.cells.specs.declared.Numbers.{Numbers}
 use Rattle.promises.specs.declared.Draft.{Draft}
-use Rattle.promises.specs.Answers.{Said, gave, refused, filled}
+use Rattle.promises.specs.Answers.{Said, gave, refused, refusedAt, filled}
 use Rattle.promises.specs.State.{draftIn}
 use Rattle.promises.specs.Runs.{Made, callOf, calls, replyOf, Run, last}
 use Rattle.drive.specs.Script.{Buffers, ofLists, ofBytes, listFrom, asked}
@@ -19,13 +19,15 @@ heldIn numbers = record { n = getD numbers 0 0; k = getD numbers 1 0; longest = 
 abbrev pub stateOf : (numbers letters : List ℕ) (centres places : List (List ℕ)) → Draft
 stateOf numbers letters centres places = draftIn (heldIn numbers) letters (byCentre centres) (byPlace places)
 
--- An answer in four numbers: 0 and the values given, or 1 and the number under which it refuses; 0 where there is none
+-- An answer in four numbers: 0 and the values given, 1 and the number under which it refuses, or 2, that number and its place; 0 where
+-- there is none
 abbrev pub answerSize : ℕ
 answerSize = 4
 
 abbrev pub encoded : Said → List ℕ
 encoded (gave values) = 0 ∷ getD values 0 0 ∷ getD values 1 0 ∷ getD values 2 0 ∷ []
 encoded (refused number) = 1 ∷ number ∷ 0 ∷ 0 ∷ []
+encoded (refusedAt number place) = 2 ∷ number ∷ place ∷ 0 ∷ []
 
 -- what a call left of each of the lent lists
 abbrev pub answersOf : Made → List ℕ

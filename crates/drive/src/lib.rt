@@ -1,4 +1,4 @@
-// Document 01's calls for a host: a script of calls on a state in lent arrays, a section shown, a lift.
+// The calls for a host: a script of calls on a state in lent arrays, a section shown, a lift, a record read back.
 // No proof binds a host, so these functions take any contents.
 ghost use mathlib.Core.Path.{_≡_};
 ghost use mathlib.Core.Bool.{true};
@@ -7,9 +7,10 @@ ghost use Prim.Native.Nat.{_+_, _≤_, _<_};
 ghost use lib.ListN.{length, take};
 ghost use lib.Seq.{sets};
 ghost use Rattle.promises.specs.Refusals.{showRefusal};
-ghost use Rattle.promises.specs.Replies.{shown, liftReply};
+ghost use Rattle.layout.specs.Yield.{yieldAt};
+ghost use Rattle.promises.specs.Replies.{shown, liftReply, unfoldReply};
 ghost use Rattle.drive.specs.Script.{buffers, nextSizes};
-ghost use Rattle.drive.specs.Told.{numbersOf};
+ghost use Rattle.drive.specs.Told.{numbersOf, foundNumbers};
 ghost use Rattle.drive.specs.Drives.{heldIn, stateOf, encoded, Drives};
 ghost use Rattle.drive.specs.Advancing.{cursor, scriptAt, calledAt, Room, Settles, Advances};
 
@@ -23,7 +24,9 @@ use crate::make::make;
 use crate::request::ANSWER_SIZE;
 use crate::request::request_at;
 use crate::told::Told;
+use crate::told::found_told;
 use crate::told::lift_told;
+use crate::told::unfold_told;
 use cells::Centre;
 use cells::Centres;
 use cells::Letters;
@@ -210,5 +213,30 @@ pub extern "C" fn drive_lift(letter: u8, answer: &mut [usize; 2]) -> usize
 {
     let told = lift_told(calls::lift::lift(letter));
     *answer = [told.kind, told.first];
+    0
+}
+
+// The picks of a folded record at the front of a list: the answer is 0 and their count, 1 and the number of the refusal, or 2, that
+// number and its place.
+#[no_mangle]
+pub extern "C" fn drive_unfold(record: &[u8], picks: &mut [u8], answer: &mut [usize; 3]) -> usize
+    ensures { λ r. ⌜ r ≡ 0 ⌝ }
+    ensures picks { λ r. ⌜ now (picks .exit) ≡ unfoldReply (now («record» .entry)) (now (picks .entry)) .list ⌝ }
+    ensures answer { λ r. ⌜ now (answer .exit) ≡ take 3 (encoded (unfoldReply (now («record» .entry)) (now (picks .entry)) .said)) ⌝ }
+{
+    let told = unfold_told(reader::unfold::unfold(record, picks));
+    *answer = [told.kind, told.first, told.second];
+    0
+}
+
+// What a reader yields at a place of a folded record: the answer is 1 for a turn on a pick, 2 for one between two picks, or 0 for
+// none; the section's length, the turn's place, and the next place.
+#[no_mangle]
+pub extern "C" fn drive_section(record: &[u8], at: usize, answer: &mut [usize; 4]) -> usize
+    ensures { λ r. ⌜ r ≡ 0 ⌝ }
+    ensures answer { λ r. ⌜ now (answer .exit) ≡ foundNumbers (yieldAt (now («record» .entry)) at) ⌝ }
+{
+    let told = found_told(reader::section::section_at(record, at));
+    *answer = [told.kind, told.first, told.second, told.third];
     0
 }

@@ -1,8 +1,11 @@
 // An answer in four numbers.
 ghost use mathlib.Core.Path.{_≡_};
-ghost use Rattle.promises.specs.Answers.{startSays, feedSays, maskSays, radiusSays, centreSays, splitSays, recordSays, liftSays};
+ghost use Rattle.promises.specs.Answers.{startSays, feedSays, maskSays, radiusSays, centreSays, splitSays, recordSays, liftSays, unfoldSays};
 ghost use Rattle.drive.specs.Drives.{encoded};
-ghost use Rattle.drive.specs.Told.{numbersOf, toldGiven, toldRefused};
+ghost use Rattle.drive.specs.Told.{numbersOf, toldGiven, toldRefused, toldRefusedAt, turnNumbers, yieldedNumbers, foundNumbers};
+use layout::Found;
+use layout::Turn;
+use layout::Yielded;
 use promises::CentreAnswer;
 use promises::FeedAnswer;
 use promises::LiftAnswer;
@@ -11,9 +14,10 @@ use promises::RadiusAnswer;
 use promises::RecordAnswer;
 use promises::SplitAnswer;
 use promises::StartAnswer;
+use promises::UnfoldAnswer;
 
 pub struct Told {
-    // 0 for an answer given, 1 for a refusal.
+    // 0 for an answer given, 1 for a refusal, 2 for one with a place.
     pub kind: usize,
     pub first: usize,
     pub second: usize,
@@ -118,4 +122,64 @@ pub fn lift_told(a: LiftAnswer) -> Told
         LiftAnswer::Lift(lift) => given_byte(lift, 0),
         LiftAnswer::Refused(number) => refused(number),
     }
+}
+
+fn refused_at(number: u8, place: usize) -> Told
+    ensures { λ r. ⌜ r ≡ toldRefusedAt number place ⌝ }
+{
+    Told {
+        kind: 2,
+        first: number as usize,
+        second: place,
+        third: 0,
+    }
+}
+
+pub fn unfold_told(a: UnfoldAnswer) -> Told
+    ensures { λ r. ⌜ numbersOf r ≡ encoded (unfoldSays a) ⌝ }
+{
+    match a {
+        UnfoldAnswer::Unfolded(picks) => given(picks, 0),
+        UnfoldAnswer::Refused(number) => refused(number),
+        UnfoldAnswer::RefusedAt(number, place) => refused_at(number, place),
+    }
+}
+
+fn section(kind: usize, length: usize, place: usize, next: usize) -> Told
+    ensures { λ r. ⌜ r ≡ record { kind = kind; first = length; second = place; third = next } ⌝ }
+{
+    Told {
+        kind,
+        first: length,
+        second: place,
+        third: next,
+    }
+}
+
+fn turn_told(length: usize, turn: Turn, next: usize) -> Told
+    ensures { λ r. ⌜ numbersOf r ≡ turnNumbers length turn next ⌝ }
+{
+    match turn {
+        Turn::OnPick(p) => section(1, length, p.0, next),
+        Turn::Between(p) => section(2, length, p.0, next),
+    }
+}
+
+fn yielded_told(yielded: Yielded, next: usize) -> Told
+    ensures { λ r. ⌜ numbersOf r ≡ yieldedNumbers yielded next ⌝ }
+{
+    match yielded {
+        Yielded::Next(s) => {
+            let turn = s.turn;
+            turn_told(s.length, turn, next)
+        }
+        Yielded::Nothing => section(0, 0, 0, next),
+    }
+}
+
+pub fn found_told(f: Found) -> Told
+    ensures { λ r. ⌜ numbersOf r ≡ foundNumbers f ⌝ }
+{
+    let yielded = f.yielded;
+    yielded_told(yielded, f.next)
 }

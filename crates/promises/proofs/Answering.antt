@@ -100,7 +100,7 @@ module _ (b : Book) (call : Call) (r : Reply) where
     λ q. let z : y ≡ x = same-number (sym (ap (λ a. a .said) e) ∙ q) in rw z at p,
     λ q. ap (λ a. a .said) e ∙ ap refused (first-one (lines b call) p q),
   )
-  refused-first (fine p ok s) x = (λ q. absurd (ok x q), λ q. absurd (first-none (lines b call) x q p))
+  refused-first (fine p ok s) x = (λ q. absurd (ok x (inl q)), λ q. absurd (first-none (lines b call) x q p))
 
   outcome-answers : Outcome b call (lines b call) r → Answered b call r
   outcome-answers o = record {
@@ -113,10 +113,10 @@ module _ (b : Book) (call : Call) (r : Reply) where
     where
       keeps : Outcome b call (lines b call) r → (x : ℕ) → r .said ≡ refused x → r .list ≡ lent call
       keeps (under y p e) x q = ap (λ a. a .list) e
-      keeps (fine p ok s) x q = absurd (ok x q)
+      keeps (fine p ok s) x q = absurd (ok x (inl q))
 
       accepts : Outcome b call (lines b call) r → Accepted (r .said) ↔ NoneMet (lines b call)
-      accepts (under y p e) = (λ f. absurd (f y (ap (λ a. a .said) e)), λ q. absurd (first-none (lines b call) y p q))
+      accepts (under y p e) = (λ f. absurd (f y (inl (ap (λ a. a .said) e))), λ q. absurd (first-none (lines b call) y p q))
       accepts (fine p ok s) = (λ _. p, λ _. ok)
 
       says : NoneMet (lines b call) → Outcome b call (lines b call) r → Says b call r

@@ -9,7 +9,7 @@ use Rattle.words.specs.Computed.{longestCentre}
 use Rattle.words.specs.Laws.{longest-is, visits-are}
 use Rattle.promises.specs.declared.Draft.{Draft}
 use Rattle.promises.specs.Answers.{filled}
-use Rattle.promises.specs.Record.{recordOf}
+use Rattle.layout.specs.Record.{recordOf}
 use Rattle.promises.specs.Refusals.{startRefusal, feedRefusal, maskRefusal, centreRefusal, longestRefusal, splitRefusal, recordRefusal}
 use Rattle.promises.specs.Book.{Book, Query, Call, start, feed, ask, split, longest, mask, radius, next, fold, lent, fedRow}
 use Rattle.promises.specs.Replies.{refusalOf, foundFor}

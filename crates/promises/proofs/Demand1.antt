@@ -1,6 +1,6 @@
 -- Demand 1: the refusals, on any state whatever and in every run; show and lift.
 use mathlib.Core.Path.{_≡_, refl, sym, ap, ap₂, subst, _∙_}
-use mathlib.Core.Logic.{_≢_}
+use mathlib.Core.Logic.{_≢_, inl}
 use mathlib.Core.List.{List, [], _∷_, _++_, append-assoc, List·Memᴰ}
 use Prim.Native.Nat.{ℕ, _-_}
 use native.Mathlib.Omega.{arith}
@@ -11,12 +11,11 @@ use Rattle.models.specs.Core.{After, append}
 use Rattle.promises.specs.declared.Draft.{Draft}
 use Rattle.promises.specs.declared.Started.{Started}
 use Rattle.promises.specs.declared.Fed.{Fed}
-use Rattle.promises.specs.Answers.{gave, refused, Reply, reply, startSays, feedSays, liftSays}
+use Rattle.promises.specs.Answers.{gave, refused, Under, Reply, reply, startSays, feedSays, liftSays}
 use Rattle.promises.specs.Refusals.{startRefusal, feedRefusal, showRefusal, liftRefusal}
-use Rattle.promises.specs.Record.{sectionOf}
 use Rattle.promises.specs.Lifts.{lift}
 use Rattle.promises.specs.Book.{Book, Query, Call, start, feed, ask, lent, blank, bookOf}
-use Rattle.promises.specs.Replies.{unless, gives, refusalOf, foundFor, replyTo, shown, liftReply}
+use Rattle.promises.specs.Replies.{unless, gives, refusalOf, foundFor, replyTo, sectionOf, shown, liftReply}
 use Rattle.promises.specs.Listed.{Line, First, NoneMet, listed, sought, showLines, liftLines}
 use Rattle.promises.specs.Says.{PartOf}
 use Rattle.promises.specs.BookLaws.{unless-zero, unless-not}
@@ -42,13 +41,13 @@ module _ {number : ℕ} {list numbers : List ℕ} {r : Reply} (h : ByNumber numb
   by-refuses : number ≢ 0 → r .said ≡ refused number
   by-refuses f = ap (λ x. x .said) (h .is ∙ unless-not number list (h .found) f)
 
-  by-found : number ≡ 0 → (x : ℕ) → r .said ≡ refused x → (r .list ≡ list) × List·Memᴰ x numbers
+  by-found : number ≡ 0 → (x : ℕ) → Under (r .said) x → (r .list ≡ list) × List·Memᴰ x numbers
   by-found z x e =
       let q : r ≡ h .found = h .is ∙ unless-zero number list (h .found) z in
-      let l = h .only x (ap (λ y. y .said) (sym q) ∙ e) in
+      let l = h .only x (subst (λ y. Under (y .said) x) q e) in
       (ap (λ y. y .list) q ∙ l .0, l .1)
 
-  by-keeps : (x : ℕ) → r .said ≡ refused x → r .list ≡ list
+  by-keeps : (x : ℕ) → Under (r .said) x → r .list ≡ list
   by-keeps x e = elim (ℕ-discrete number 0) [
     | yes z ↦ by-found z x e .0
     | no f ↦ ap (λ y. y .list) (h .is ∙ unless-not number list (h .found) f)
@@ -94,7 +93,7 @@ numbered d (fed pick before r after) p = feed-numbered p
 numbered d (asked q r) p = query-numbered p
 
 -- a refused call leaves the state
-state-kept : (d : Draft) (m : Made) → Meets d m → (number : ℕ) → replyOf m .said ≡ refused number → leaves d m ≡ d
+state-kept : (d : Draft) (m : Made) → Meets d m → (number : ℕ) → Under (replyOf m .said) number → leaves d m ≡ d
 unfolding Meets replyOf leaves replyTo refusalOf lent foundFor
 state-kept d (started K r) p number e =
     p .refuses (λ z. gave-accepted (said-is (p .says blank ∙ unless-zero (startRefusal K) [] _ z)) number e)
@@ -115,7 +114,7 @@ demand1 d m p = record {
     refuses number f (hit g z) = by-refuses (numbered d m p) z ∙ ap refused (first-one ls g f)
     refuses number f (clear g z) = absurd (first-none ls number f g)
 
-    otherwise : NoneMet ls → (number : ℕ) → replyOf m .said ≡ refused number → Tested ls (refusalOf (d .n) (d .k) (callOf m))
+    otherwise : NoneMet ls → (number : ℕ) → Under (replyOf m .said) number → Tested ls (refusalOf (d .n) (d .k) (callOf m))
         → List·Memᴰ number (soughtNumbers (callOf m))
     otherwise f number e (hit g z) = absurd (first-none ls _ g f)
     otherwise f number e (clear g z) = by-found (numbered d m p) z number e .1
@@ -187,6 +186,6 @@ lift-holds letter r p = go (lift-tested letter)
       gives = λ h. absurd (first-none ls _ g h);
     }
     go (clear g z) = let e : liftSays r ≡ gave (lift letter ∷ []) = said-is (p ∙ unless-zero (liftRefusal letter) [] _ z) in record {
-      refuses = λ x. (λ h. absurd (gave-accepted e x h), λ h. absurd (first-none ls x h g));
+      refuses = λ x. (λ h. absurd (gave-accepted e x (inl h)), λ h. absurd (first-none ls x h g));
       gives = λ _. e;
     }

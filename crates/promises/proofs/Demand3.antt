@@ -1,7 +1,7 @@
 -- Demand 3: one theorem about every run.
 use mathlib.Core.Path.{_≡_, refl, sym, ap, _∙_}
 use mathlib.Core.Bool.{true}
-use mathlib.Core.Logic.{_↔_}
+use mathlib.Core.Logic.{_↔_, inl}
 use mathlib.Core.List.{List, [], _∷_, _++_}
 use mathlib.Core.Option.{Option, some}
 use Prim.Native.Nat.{ℕ, _+_, _-_, _*_, _≤_, _<_}
@@ -21,7 +21,7 @@ use Rattle.models.specs.Centres.{longest-centre-at}
 use Rattle.promises.specs.declared.Draft.{Draft}
 use Rattle.promises.specs.declared.Started.{Started}
 use Rattle.promises.specs.declared.Fed.{Fed}
-use Rattle.promises.specs.Answers.{Said, gave, refused, Reply, reply, startSays, feedSays, filled}
+use Rattle.promises.specs.Answers.{Said, gave, refused, refusedAt, Reply, reply, startSays, feedSays, filled}
 use Rattle.promises.specs.Refusals.{startRefusal, splitRefusal, longestRefusal}
 use Rattle.promises.specs.Book.{Book, blank, split, longest, lent, startTaken}
 use Rattle.promises.specs.Replies.{orNoSplit, splitReply, refusalOf, foundFor, replyTo}
@@ -78,8 +78,8 @@ split-found u i k before said after e = go (splitOf (word u) i k) (split-law (wo
         let c : length ends ≡ k = n .is .count in
         let ok : Accepted said = gave-accepted (said-is q) in
         record {
-          wants = (λ z. absurd (ok 9 z), λ f. absurd (f ends (n .is)));
-          keeps = λ z. absurd (ok 9 z);
+          wants = (λ z. absurd (ok 9 (inl z)), λ f. absurd (f ends (n .is)));
+          keeps = λ z. absurd (ok 9 (inl z));
           gives = λ _. (ends, n, said-is q ∙ ap (λ x. gave (x ∷ [])) c, list-is q ∙ ap (λ x. ends ++ drop x before) c);
         }
     go o (lacking p f) e =
@@ -124,15 +124,16 @@ start-accepted {d} {K} {r} p = go (start-cases K)
   where
     go : Case (startTaken K) (startRefusal K) → Accepted (startSays (r .answer)) ↔ (startTaken K ≡ true)
     go (taken t z) = (λ _. t, λ _. gave-accepted (said-is (p .says blank ∙ unless-zero (startRefusal K) [] _ z)))
-    go (left t z) = (λ ok. absurd (ok _ (said-is (p .says blank ∙ unless-not (startRefusal K) [] _ z))), λ y. absurd (true-false y t))
+    go (left t z) = (λ ok. absurd (ok _ (inl (said-is (p .says blank ∙ unless-not (startRefusal K) [] _ z)))), λ y. absurd (true-false y t))
 
-one : {a b : ℕ} → gave (a ∷ []) ≡ gave (b ∷ []) → a ≡ b
+pub one : {a b : ℕ} → gave (a ∷ []) ≡ gave (b ∷ []) → a ≡ b
 one {a} {b} e = ap (λ s. first s) e
   where
     first : Said → ℕ
     first (gave (x ∷ l)) = x
     first (gave []) = 0
     first (refused number) = 0
+    first (refusedAt number place) = 0
 
 pub demand3 : Demand3Holds
 demand3 d K r ms o = record {

@@ -1,7 +1,7 @@
 -- What an accepted feed says, and what its list holds.
 use mathlib.Core.Path.{_≡_, subst, _∙_}
 use mathlib.Core.Bool.{true, cond, _&&_, and-eq-true-iff}
-use mathlib.Core.Logic.{_↔_}
+use mathlib.Core.Logic.{_↔_, inl}
 use mathlib.Core.List.{List, [], _∷_, _++_}
 use Prim.Native.Nat.{ℕ, _<_}
 use lib.Dec.{leb, ltb}
@@ -12,7 +12,8 @@ use Rattle.words.specs.Definitions.{mostPicks, mostVisits, firstLetter, lastLet
 use Rattle.promises.specs.declared.Draft.{Draft}
 use Rattle.promises.specs.declared.Fed.{Fed}
 use Rattle.promises.specs.Answers.{gave, reply, feedSays, filled}
-use Rattle.promises.specs.Refusals.{between, feedRefusal}
+use Rattle.promises.specs.Refusals.{feedRefusal}
+use Rattle.words.specs.Ranges.{between}
 use Rattle.promises.specs.Book.{Book, book, lent, feedTaken, write}
 use Rattle.promises.specs.Replies.{unless, fedReply, fedMask, fedVisits, refusalOf, foundFor, replyTo}
 use Rattle.promises.specs.BookLaws.{Case, taken, left, unless-zero, unless-not}
@@ -34,7 +35,7 @@ module _ {d : Draft} {b : Book} {pick : ℕ} {before : List ℕ} {r : Fed} {afte
       go : Case (feedTaken b pick (length before)) (feedRefusal (length (b .row)) (b .K) pick (length before))
           → Accepted (feedSays (r .answer)) ↔ (feedTaken b pick (length before) ≡ true)
       go (taken t z) = (λ _. t, λ _. gave-accepted (said-is (is ∙ unless-zero _ before _ z)))
-      go (left t z) = (λ ok. absurd (ok _ (said-is (is ∙ unless-not _ before _ z))), λ y. absurd (true-false y t))
+      go (left t z) = (λ ok. absurd (ok _ (inl (said-is (is ∙ unless-not _ before _ z)))), λ y. absurd (true-false y t))
 
   fed-reply : Accepted (feedSays (r .answer))
       → reply (feedSays (r .answer)) after ≡ fedReply (fedMask b pick) (fedVisits b pick) before
@@ -43,7 +44,7 @@ module _ {d : Draft} {b : Book} {pick : ℕ} {before : List ℕ} {r : Fed} {afte
       go : Case (feedTaken b pick (length before)) (feedRefusal (length (b .row)) (b .K) pick (length before))
           → reply (feedSays (r .answer)) after ≡ fedReply (fedMask b pick) (fedVisits b pick) before
       go (taken t z) = is ∙ unless-zero _ before _ z
-      go (left t z) = absurd (ok _ (said-is (is ∙ unless-not _ before _ z)))
+      go (left t z) = absurd (ok _ (inl (said-is (is ∙ unless-not _ before _ z))))
 
   pub fed-said : Accepted (feedSays (r .answer)) → feedSays (r .answer) ≡ gave (fedMask b pick ∷ length (fedVisits b pick) ∷ [])
   fed-said ok = said-is (fed-reply ok)

@@ -10,6 +10,7 @@ use native.Mathlib.Decide.{decLt}
 use lib.Dec.{leb}
 use lib.ListN.{length}
 use borrow.Author.Tests.{le-leb, lt-leb}
+use Rattle.words.specs.Cases.{clash}
 use Rattle.words.specs.Definitions.{word, centre, Ending}
 use Rattle.words.specs.Search.{both?}
 use Rattle.words.specs.Mirror.{ending?}
@@ -17,8 +18,8 @@ use Rattle.words.specs.Computed.{nextEnding, nextAfter, radiusAt, splitOf}
 use Rattle.words.specs.Computed.{mask as maskOf}
 use Rattle.words.specs.Laws.{row-bit, row-past, mask-bit, next-ending, next-centre, next-after, next-missing, radius-at}
 use Rattle.words.specs.Splits.{Splitting, given, lacking, split-law, named-one}
-use Rattle.promises.specs.Answers.{gave, refused, Reply, reply, filled}
-use Rattle.promises.specs.Record.{recordOf}
+use Rattle.promises.specs.Answers.{gave, refused, Under, Reply, reply, filled}
+use Rattle.layout.specs.Record.{recordOf}
 use Rattle.promises.specs.Book.{Book, Call, ask, lent, split, next, fold}
 use Rattle.promises.specs.Replies.{orNoSplit, orNoEnding, orTooLong, gives, splitReply, recordReply}
 use Rattle.promises.specs.Listed.{Line, First, NoneMet, Outside, recordLonger, noSplit, noEnding}
@@ -35,7 +36,7 @@ pub data Outcome (b : Book) (call : Call) (ls : List Line) (r : Reply) : Type 0 
 
 -- From the book
 
-not-outside : (low high x : ℕ) → (Outside low high x → ⊥) → (low ≤ x) × (x ≤ high)
+pub not-outside : (low high x : ℕ) → (Outside low high x → ⊥) → (low ≤ x) × (x ≤ high)
 not-outside low high x f = elim (decLt x low) [
   | yes l ↦ absurd (f (inl l))
   | no l ↦ elim (decLt high x) [ yes m ↦ absurd (f (inr m)) | no m ↦ (omega arith, omega arith) ]
@@ -119,13 +120,14 @@ record-found b i k output = go (splitOf (word (b .row)) i k) (split-law (word (b
 
 -- a reply that refuses under these numbers only, and then keeps its list
 abbrev pub OnlyUnder : (list numbers : List ℕ) → Reply → Type 0
-OnlyUnder list numbers r = (number : ℕ) → r .said ≡ refused number → (r .list ≡ list) × List·Memᴰ number numbers
+OnlyUnder list numbers r = (number : ℕ) → Under (r .said) number → (r .list ≡ list) × List·Memᴰ number numbers
 
 pub gave-only : (l list after numbers : List ℕ) → OnlyUnder list numbers (reply (gave l) after)
 gave-only l list after numbers number e = absurd (gave-accepted refl number e)
 
 refused-only : (x : ℕ) (list numbers : List ℕ) → List·Memᴰ x numbers → OnlyUnder list numbers (reply (refused x) list)
-refused-only x list numbers h number e = let z : x ≡ number = cc in (refl, rw (← z) h)
+refused-only x list numbers h number (inl e) = let z : x ≡ number = cc in (refl, rw (← z) h)
+refused-only x list numbers h number (inr e) = clash (cc (e .1))
 
 pub no-split-only : (o : Option (List ℕ)) (list numbers : List ℕ) (f : List ℕ → Reply) → ((ends : List ℕ) → OnlyUnder list (9 ∷ numbers) (f ends))
     → OnlyUnder list (9 ∷ numbers) (orNoSplit o list f)

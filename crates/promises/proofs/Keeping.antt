@@ -1,5 +1,6 @@
 -- One call, and then a whole run: the state holds what stands in the book, and each reply is the one that the book gives.
-use mathlib.Core.Path.{_≡_, sym, ap, subst}
+use mathlib.Core.Path.{_≡_, sym, ap, subst, _∙_}
+use mathlib.Core.Logic.{inl, inr}
 use mathlib.Core.Bool.{true, cond}
 use mathlib.Core.List.{List, [], _∷_, _++_}
 use Prim.Native.Nat.{ℕ, _≤_}
@@ -24,7 +25,8 @@ use Rattle.promises.specs.Demands.{Opened, Accepted, FeedAmong}
 -- Answers that are accepted
 
 pub gave-accepted : {said : Said} {l : List ℕ} → said ≡ gave l → Accepted said
-gave-accepted {said} {l} e number q = clash cc
+gave-accepted {said} {l} e number (inl q) = clash cc
+gave-accepted {said} {l} e number (inr q) = clash (cc (sym e ∙ q .1))
 
 -- the parts of an equation of replies
 pub said-is : {s t : Said} {k l : List ℕ} → reply s k ≡ reply t l → s ≡ t

@@ -10,3 +10,6 @@ pub mod Demand3
 pub mod Transcript
 pub mod Stored
 pub mod Drafts
+pub mod Unfolding
+pub mod ReadBack
+pub mod ReadExamples

@@ -11,9 +11,9 @@ use lib.ListN.{length}
 use borrow.Author.Tests.{leb-true, ltb-true, le-leb, lt-ltb}
 use Rattle.words.specs.Definitions.{mostPicks, mostSections, firstLetter, lastLetter}
 use Rattle.words.specs.Computed.{rising?}
-use Rattle.promises.specs.Refusals.{between, test, line3, line4, line6, line7, line8, showRefusal, liftRefusal}
+use Rattle.promises.specs.Refusals.{test, line3, line4, line6, line7, line8, showRefusal, liftRefusal}
 use Rattle.words.specs.Cases.{true-false}
-use Rattle.promises.specs.RefusalLaws.{between-true}
+use Rattle.words.specs.Ranges.{between, between-true}
 use Rattle.promises.specs.Listed.{Line, line, First, NoneMet, Outside, shortList, prefixAbove, endsNotRising, noDraft, full, showLines, liftLines}
 
 -- The first line that is met is one, and there is none where none is met
@@ -73,7 +73,7 @@ unfolding NoneMet
 over = clear tt refl
 
 -- a test that fails exactly where its line is met, and those after it
-check : (l : Line) (ls : List Line) (t : Bool) (after : ℕ) → l .number ≢ 0 → (t ≡ false → l .Met) → (t ≡ true → l .Met → ⊥)
+pub check : (l : Line) (ls : List Line) (t : Bool) (after : ℕ) → l .number ≢ 0 → (t ≡ false → l .Met) → (t ≡ true → l .Met → ⊥)
     → ((l .Met → ⊥) → Tested ls after) → Tested (l ∷ ls) (test t (l .number) after)
 unfolding First NoneMet
 check l ls false after z f g k = hit (inl (f refl, refl)) z
@@ -86,8 +86,8 @@ check l ls true after z f g k = go (k (g refl))
 -- The tests of each line
 
 inside-not : (low high x : ℕ) → between low high x ≡ true → Outside low high x → ⊥
-inside-not low high x e (inl l) = omega (arith, between-true low high x e .0)
-inside-not low high x e (inr l) = omega (arith, between-true low high x e .1)
+inside-not low high x e (inl l) = omega (arith, between-true low high x e .low)
+inside-not low high x e (inr l) = omega (arith, between-true low high x e .high)
 
 outside-met : (low high x : ℕ) → between low high x ≡ false → Outside low high x
 outside-met low high x e = elim (decLt x low) [
@@ -111,7 +111,7 @@ check-list least entries ls after k = check (shortList least entries) ls (leb le
 pub check-prefix : (n i : ℕ) (ls : List Line) (after : ℕ) → Tested ls after → Tested (prefixAbove n i ∷ ls) (line4 0 n i after)
 check-prefix n i ls after k = check (prefixAbove n i) ls (between 0 n i) after (λ e. omega arith)
     (λ e. elim (decLt n i) [ yes l ↦ l | no l ↦ absurd (true-false (simp (le-leb 0 i (omega arith), le-leb i n (omega arith))) e) ])
-    (λ e l. omega (arith, between-true 0 n i e .1)) (λ _. k)
+    (λ e l. omega (arith, between-true 0 n i e .high)) (λ _. k)
 
 -- those after 7 may take it that n is at most 2,048
 pub check-draft : (n K : ℕ) (ls : List Line) (after : ℕ) → (n ≤ mostPicks → Tested ls after) → Tested (noDraft n K ∷ ls) (line7 n K after)

@@ -1,4 +1,6 @@
 -- What an answer says: the values it gives, or the number under which it refuses.
+use mathlib.Core.Path.{_≡_}
+use mathlib.Core.Logic.{_⊎_}
 use mathlib.Core.List.{List, [], _∷_, _++_}
 use Prim.Native.Nat.{ℕ}
 use lib.ListN.{length, drop}
@@ -18,10 +20,18 @@ use Rattle.promises.specs.declared.RecordAnswer.{RecordAnswer}
 use Rattle.promises.specs.declared.RecordAnswer.the-variants.{Written, Refused as RecordRefused}
 use Rattle.promises.specs.declared.LiftAnswer.{LiftAnswer}
 use Rattle.promises.specs.declared.LiftAnswer.the-variants.{Lift, Refused as LiftRefused}
+use Rattle.promises.specs.declared.UnfoldAnswer.{UnfoldAnswer}
+use Rattle.promises.specs.declared.UnfoldAnswer.the-variants.{Unfolded, Refused as UnfoldRefused, RefusedAt as UnfoldRefusedAt}
 
 pub data Said : Type 0 where
   gave : List ℕ → Said
-  refused : ℕ → Said
+  refused : (number : ℕ) → Said
+  -- "a place coming beside the number where one is named"
+  refusedAt : (number place : ℕ) → Said
+
+-- refused under a number, with a place or without
+abbrev pub Under : Said → (number : ℕ) → Type 0
+Under said number = (said ≡ refused number) ⊎ ((place : ℕ) × (said ≡ refusedAt number place))
 
 -- what is said, and the lent list as it stands afterwards; [] where none is lent
 pub record Reply : Type 0 where
@@ -72,3 +82,9 @@ recordSays (RecordRefused number) = refused number
 abbrev pub liftSays : LiftAnswer → Said
 liftSays (Lift lift) = gave (lift ∷ [])
 liftSays (LiftRefused number) = refused number
+
+-- the count of picks
+abbrev pub unfoldSays : UnfoldAnswer → Said
+unfoldSays (Unfolded picks) = gave (picks ∷ [])
+unfoldSays (UnfoldRefused number) = refused number
+unfoldSays (UnfoldRefusedAt number place) = refusedAt number place

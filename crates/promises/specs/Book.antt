@@ -5,7 +5,7 @@ use Prim.Native.Nat.{ℕ}
 use lib.Dec.{leb, ltb}
 use lib.ListN.{length}
 use Rattle.words.specs.Definitions.{mostPicks, mostSections, mostVisits, firstLetter, lastLetter}
-use Rattle.promises.specs.Refusals.{between}
+use Rattle.words.specs.Ranges.{between}
 
 -- A query: a call that only reads the state, with its arguments; a list is lent as it stands. Places are in whole picks, centres in half
 -- picks.

@@ -9,8 +9,9 @@ use lib.Dec.{leb, ltb}
 use lib.ListN.{length}
 use borrow.Author.Tests.{le-leb}
 use Rattle.words.specs.Definitions.{mostPicks, mostSections, mostVisits, firstLetter, lastLetter}
+use Rattle.words.specs.Ranges.{between}
 use Rattle.promises.specs.Answers.{refused, Reply, reply}
-use Rattle.promises.specs.Refusals.{between, test, line7, startRefusal, feedRefusal}
+use Rattle.promises.specs.Refusals.{test, line7, startRefusal, feedRefusal}
 use Rattle.promises.specs.Book.{Book, startTaken, feedTaken}
 use Rattle.promises.specs.Replies.{unless}
 

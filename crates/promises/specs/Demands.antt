@@ -12,7 +12,7 @@ use Rattle.promises.specs.declared.Draft.{Draft}
 use Rattle.promises.specs.declared.Started.{Started}
 use Rattle.promises.specs.declared.Fed.{Fed}
 use Rattle.promises.specs.declared.LiftAnswer.{LiftAnswer}
-use Rattle.promises.specs.Answers.{Said, gave, refused, Reply, startSays, feedSays, liftSays}
+use Rattle.promises.specs.Answers.{Said, gave, refused, refusedAt, Under, Reply, startSays, feedSays, liftSays}
 use Rattle.promises.specs.Lifts.{lift}
 use Rattle.promises.specs.Book.{Book, Call, ask, split, longest, mask, next, fold, blank, lent, startTaken, feedTaken, bookOf}
 use Rattle.promises.specs.Listed.{First, NoneMet, recordLonger, noSplit, noEnding, listed, sought, lines, showLines, liftLines}
@@ -37,7 +37,7 @@ sectionsOf ms = bookOf (calls ms) .K
 
 -- not refused
 abbrev pub Accepted : Said → Type 0
-Accepted said = (number : ℕ) → said ≡ refused number → ⊥
+Accepted said = (number : ℕ) → Under said number → ⊥
 
 -- this feed stands in the list, after xs
 pub record FeedAmong (ms xs : List Made) (pick : ℕ) (before : List ℕ) (r : Fed) (after : List ℕ) : Type 0 where
@@ -55,10 +55,10 @@ pub record Demand1 (d : Draft) (m : Made) : Type 0 where
   -- of the lines that need no letters, 1 to 4, 7 and 8, the first that the call meets gives the number: "there 1 to 4 and 8 still hold"
   pub refuses : (number : ℕ) → First (listed (d .n) (d .k) (callOf m)) number → replyOf m .said ≡ refused number
   -- "Each number is given only under its line": a call that meets none of these can be refused only by what is found
-  pub otherwise : NoneMet (listed (d .n) (d .k) (callOf m)) → (number : ℕ) → replyOf m .said ≡ refused number
+  pub otherwise : NoneMet (listed (d .n) (d .k) (callOf m)) → (number : ℕ) → Under (replyOf m .said) number
       → List·Memᴰ number (soughtNumbers (callOf m))
   -- "A refusal returns its number only; state and lent buffers keep every byte", whatever the number
-  pub keeps : (number : ℕ) → replyOf m .said ≡ refused number → (replyOf m .list ≡ lent (callOf m)) × (leaves d m ≡ d)
+  pub keeps : (number : ℕ) → Under (replyOf m .said) number → (replyOf m .list ≡ lent (callOf m)) × (leaves d m ≡ d)
 
 -- the lines that need no letters are not met
 abbrev pub NoneListed : Book → Call → Type 0

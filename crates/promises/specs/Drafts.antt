@@ -3,11 +3,10 @@ use mathlib.Core.Path.{_≡_}
 use mathlib.Core.List.{List, [], _∷_, map}
 use mathlib.Core.Option.{Option, some, none}
 use Prim.Native.Nat.{ℕ, suc, _-_}
-use Prim.Native.Char.{code}
-use Prim.Native.String as Text
 use Prim.Native.String.{String}
 use lib.ListN.{length, take, getD}
 use Rattle.words.specs.Definitions.{mostSections, mostVisits}
+use Rattle.text.specs.Definitions.{bytes}
 use Rattle.promises.specs.Answers.{gave, refused, Reply, reply, filled}
 use Rattle.promises.specs.Book as calls
 use Rattle.promises.specs.Book.{Book, book, Call}
@@ -23,11 +22,6 @@ pub record Row : Type 0 where
   pub letters : List ℕ
   pub question : Question
   pub answer : Option (List ℕ)
-
--- a text's letters, as bytes
-bytes : String → List ℕ
-bytes Text.[] = []
-bytes (Text._∷_ c s) = code c ∷ bytes s
 
 row : String → Question → Option (List ℕ) → Row
 unfolding bytes

@@ -17,7 +17,7 @@ use Rattle.promises.specs.declared.Draft.{Draft}
 use Rattle.promises.specs.declared.LiftAnswer.the-variants.{Lift, Refused as LiftRefused}
 use Rattle.promises.specs.Answers.{gave, refused, Reply, reply}
 use Rattle.promises.specs.Refusals.{liftRefusal}
-use Rattle.promises.specs.Record.{recordOf}
+use Rattle.layout.specs.Record.{recordOf}
 use Rattle.promises.specs.Lifts.{lift}
 use Rattle.promises.specs.Book.{Query, ask, split, fold, lent}
 use Rattle.promises.specs.Replies.{unless, orNoSplit, orTooLong, gives, splitReply, recordReply, refusalOf, liftReply}

@@ -1,7 +1,6 @@
 -- document 01, for a reader
 pub mod Answers
 pub mod Refusals
-pub mod Record
 pub mod Lifts
 pub mod Book
 pub mod Replies
@@ -14,6 +13,7 @@ pub mod Lent
 pub mod Drafts
 pub mod Runs
 pub mod Demands
+pub mod ReadBack
 -- laws
 pub mod RefusalLaws
 pub mod BookLaws

@@ -1,12 +1,13 @@
--- Document 01's two lists of refusals as propositions: each line under its words, and for each call the lines that it can meet, in the
--- order in which they are tested: 7 first, then the input numbers in rising order but for 5, then 8, 9 or 10, then 5.
+-- Document 01's two lists of refusals as propositions, with document 02's numbers: each line under its words, and for each call the lines
+-- that it can meet, in the order in which they are tested: 7 first, then the input numbers in rising order but for 5, then 8, 9 or 10, then 5.
 use mathlib.Core.Path.{_≡_}
-use mathlib.Core.Logic.{_⊎_}
+use mathlib.Core.Logic.{_≢_, _⊎_}
 use mathlib.Core.List.{List, [], _∷_, _++_}
 use Prim.Native.Nat.{ℕ, _+_, _*_, _<_}
 use lib.ListN.{length}
 use Rattle.words.specs.Definitions.{mostPicks, mostSections, mostVisits, firstLetter, lastLetter, word, centre, Ending, Split, Named, Rising}
-use Rattle.promises.specs.Record.{recordOf}
+use Rattle.layout.specs.Record.{Folded, recordOf}
+use Rattle.layout.specs.Layout.{Laid, Layout, total}
 use Rattle.promises.specs.Book.{Book, Call, start, feed, ask, split, longest, mask, radius, next, fold}
 
 -- a line's number, and what it is to meet it
@@ -59,9 +60,21 @@ noSuchEnd ends s = line 4 (Outside 1 (length ends) s)
 abbrev pub recordLonger : (u : List ℕ) (i k : ℕ) (output : List ℕ) → Line
 recordLonger u i k output = line 5 ((ends : List ℕ) × Named (word u) i k ends × (length output < length (recordOf (word u) i ends)))
 
+-- document 02, "a list too short is 5": it has fewer entries than the record has picks
+abbrev pub listShorter : (bytes list : List ℕ) → Line
+listShorter bytes list = line 5 ((picks : ℕ) × (fs : List Folded) × Laid bytes picks fs × (length list < picks))
+
 -- 6. "Ends not rising strictly from above 0 to exactly the number of lent letters"
 abbrev pub endsNotRising : (letters ends : List ℕ) → Line
 endsNotRising letters ends = line 6 (Rising (length letters) 0 ends → ⊥)
+
+-- 11. document 02, "the first byte that cannot continue the layout": its place is `BreaksAt`
+abbrev pub noRecord : (bytes : List ℕ) → Line
+noRecord bytes = line 11 (Layout bytes → ⊥)
+
+-- 12. document 02, "lengths not adding up to the picks"
+abbrev pub lengthsDiffer : (bytes : List ℕ) → Line
+lengthsDiffer bytes = line 12 ((picks : ℕ) × (fs : List Folded) × Laid bytes picks fs × (total fs ≢ picks))
 
 -- Refused because of the state
 
@@ -109,9 +122,13 @@ sought u (ask (fold i k output)) = noSplit u i k ∷ recordLonger u i k output �
 abbrev pub lines : Book → Call → List Line
 lines b call = listed (length (b .row)) (b .K) call ++ sought (b .row) call
 
--- show and lift are given no state
+-- show, lift and unfold are given no state
 abbrev pub showLines : (letters ends : List ℕ) (s : ℕ) → List Line
 showLines letters ends s = noSuchEnd ends s ∷ endsNotRising letters ends ∷ []
 
 abbrev pub liftLines : (letter : ℕ) → List Line
 liftLines letter = noLetter letter ∷ []
+
+-- 11, 12, and 5 last
+abbrev pub unfoldLines : (bytes list : List ℕ) → List Line
+unfoldLines bytes list = noRecord bytes ∷ lengthsDiffer bytes ∷ listShorter bytes list ∷ []

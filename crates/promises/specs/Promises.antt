@@ -17,11 +17,14 @@ use Rattle.promises.specs.declared.Draft.{Draft}
 use Rattle.promises.specs.declared.Started.{Started}
 use Rattle.promises.specs.declared.Fed.{Fed}
 use Rattle.promises.specs.declared.LiftAnswer.{LiftAnswer}
-use Rattle.promises.specs.Answers.{Said, gave, refused, Reply, reply, startSays, feedSays, liftSays}
+use Rattle.promises.specs.declared.UnfoldAnswer.{UnfoldAnswer}
+use Rattle.promises.specs.Answers.{Said, gave, refused, Reply, reply, startSays, feedSays, liftSays, unfoldSays}
 use Rattle.promises.specs.Refusals.{startRefusal, feedRefusal, showRefusal}
 use Rattle.promises.specs.Book.{Book, write, Query, start, feed, ask, split, longest, mask, radius, next, fold, lent}
-use Rattle.promises.specs.Record.{recordOf}
-use Rattle.promises.specs.Replies.{unless, orNoSplit, orNoEnding, orTooLong, gives, splitReply, recordReply, refusalOf, replyTo, shown, liftReply}
+use Rattle.layout.specs.declared.Found.{Found}
+use Rattle.layout.specs.Record.{recordOf}
+use Rattle.layout.specs.Yield.{yieldAt}
+use Rattle.promises.specs.Replies.{unless, orNoSplit, orNoEnding, orTooLong, gives, splitReply, recordReply, refusalOf, replyTo, shown, liftReply, unfoldReply}
 use Rattle.promises.specs.State.{fresh, arraysOf, withPick}
 use Rattle.promises.specs.Holds.{Holds}
 
@@ -101,3 +104,11 @@ ShowNumberPromise letters ends s number = number ≡ showRefusal letters ends s
 
 abbrev pub LiftPromise : (letter : ℕ) (r : LiftAnswer) → Type 0
 LiftPromise letter r = reply (liftSays r) [] ≡ liftReply letter
+
+-- the record's bytes; the list before and after
+abbrev pub UnfoldPromise : (bytes before : List ℕ) (r : UnfoldAnswer) (after : List ℕ) → Type 0
+UnfoldPromise bytes before r after = reply (unfoldSays r) after ≡ unfoldReply bytes before
+
+-- one step of a reader: what it yields at a place, and the place after it
+abbrev pub SectionPromise : (bytes : List ℕ) (at : ℕ) (r : Found) → Type 0
+SectionPromise bytes at r = r ≡ yieldAt bytes at

@@ -23,7 +23,7 @@ use Rattle.models.specs.Splitting.{split-right as split-by-right}
 use Rattle.promises.specs.declared.Draft.{Draft}
 use Rattle.promises.specs.Answers.{Reply, reply}
 use Rattle.text.specs.Definitions.{decimal, lineEnd}
-use Rattle.promises.specs.Record.{sectionFields, behindCommas, recordOf}
+use Rattle.layout.specs.Record.{laidOut, foldedOf, recordOf}
 use Rattle.promises.specs.Book.{Book, Query, ask, split, longest, mask, radius, fold, lent}
 use Rattle.promises.specs.Book.{next as nextAsked}
 use Rattle.promises.specs.Replies.{unless, orNoSplit, orNoEnding, orTooLong, gives, splitReply, recordReply, refusalOf, foundFor, replyTo}
@@ -79,15 +79,15 @@ sections-to : {w : ℕ → ℕ} {n a : ℕ} {ends : List ℕ} → Sections w n a
 sections-to done = omega arith
 sections-to (next f s) = omega (arith, f .some, sections-to s)
 
-fields-as : {w v : ℕ → ℕ} {n a : ℕ} {ends : List ℕ} → Agree w v n → Sections w n a ends → sectionFields w a ends ≡ sectionFields v a ends
-unfolding sectionFields
-fields-as f done = refl
-fields-as {w} {v} {n} f (next {a = a} {e = e} s t) =
-    ap₂ (λ x l. decimal (e - a) ∷ x ∷ l) (stretch-as a ((e - a + 1) / 2) (λ i l. f i (omega (arith, s .some, sections-to t)))) (fields-as f t)
+folded-as : {w v : ℕ → ℕ} {n a : ℕ} {ends : List ℕ} → Agree w v n → Sections w n a ends → foldedOf w a ends ≡ foldedOf v a ends
+folded-as f done = refl
+folded-as {w} {v} {n} f (next {a = a} {e = e} s t) =
+    let half = stretch-as {w = w} {v = v} a ((e - a + 1) / 2) (λ i l. f i (omega (arith, s .some, sections-to t))) in
+    ap₂ (λ x l. record { len = e - a; half = x } ∷ l) half (folded-as f t)
 
 record-as : {w v : ℕ → ℕ} {n : ℕ} {ends : List ℕ} → Agree w v n → Sections w n 0 ends → recordOf w n ends ≡ recordOf v n ends
 unfolding recordOf
-record-as {n = n} {ends = ends} f s = ap (λ l. decimal n ++ behindCommas (decimal (length ends) ∷ l) ++ lineEnd ∷ []) (fields-as f s)
+record-as {n = n} f s = ap (laidOut n) (folded-as f s)
 
 -- the letters stored are those of the book
 record-found : {w v : ℕ → ℕ} (k i : ℕ) (output : List ℕ) → Agree w v i

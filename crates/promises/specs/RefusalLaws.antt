@@ -10,14 +10,12 @@ use lib.ListN.{length}
 use borrow.Author.Tests.{leb-true, ltb-true, le-leb, lt-leb, le-ltb, lt-ltb}
 use Rattle.words.specs.Definitions.{mostPicks, mostSections, mostVisits, firstLetter, lastLetter, Rising}
 use Rattle.words.specs.Computed.{rising?}
-use Rattle.promises.specs.Refusals.{between, test, line1, line2, line3, line4, line6, line7, line8, startRefusal, feedRefusal, maskRefusal, centreRefusal, longestRefusal, splitRefusal, recordRefusal, showRefusal, liftRefusal}
+use Rattle.words.specs.Ranges.{between, between-true}
+use Rattle.promises.specs.Refusals.{test, line1, line2, line3, line4, line6, line7, line8, startRefusal, feedRefusal, maskRefusal, centreRefusal, longestRefusal, splitRefusal, recordRefusal, showRefusal, liftRefusal}
 
 test-zero : (t : Bool) (number after : ℕ) → 0 < number → test t number after ≡ 0 → (t ≡ true) × (after ≡ 0)
 test-zero true number after l e = (refl, e)
 test-zero false number after l e = absurd (omega arith)
-
-pub between-true : (low high x : ℕ) → between low high x ≡ true → (low ≤ x) × (x ≤ high)
-between-true low high x e = let r = and-eq-true-iff (leb low x) (leb x high) .0 e in (leb-true low x (r .0), leb-true x high (r .1))
 
 -- 7 passed
 pub record Passed (n K : ℕ) : Type 0 where
@@ -30,11 +28,11 @@ passed n K after e =
     let a = test-zero _ 7 after (omega arith) e in
     let b = and-eq-true-iff (leb n mostPicks) (between 1 mostSections K) .0 (a .0) in
     let c = between-true 1 mostSections K (b .1) in
-    (record { picks = leb-true n mostPicks (b .0); least = c .0; most = c .1 }, a .1)
+    (record { picks = leb-true n mostPicks (b .0); least = c .low; most = c .high }, a .1)
 
 pub start-fits : (K : ℕ) → startRefusal K ≡ 0 → (1 ≤ K) × (K ≤ mostSections)
 unfolding startRefusal
-start-fits K e = between-true 1 mostSections K (test-zero _ 1 0 (omega arith) e .0)
+start-fits K e = let c = between-true 1 mostSections K (test-zero _ 1 0 (omega arith) e .0) in (c .low, c .high)
 
 pub record FeedFits (n K entries : ℕ) : Type 0 where
   pub state : Passed n K
@@ -52,11 +50,11 @@ feed-fits n K pick entries e =
 
 pub mask-fits : (n K i : ℕ) → maskRefusal n K i ≡ 0 → i ≤ n
 unfolding maskRefusal
-mask-fits n K i e = between-true 0 n i (test-zero _ 4 0 (omega arith) (passed n K _ e .1) .0) .1
+mask-fits n K i e = between-true 0 n i (test-zero _ 4 0 (omega arith) (passed n K _ e .1) .0) .high
 
 pub centre-fits : (n K c : ℕ) → centreRefusal n K c ≡ 0 → (1 ≤ c) × (c ≤ 2 * n + 1)
 unfolding centreRefusal
-centre-fits n K c e = between-true 1 (2 * n + 1) c (test-zero _ 4 0 (omega arith) (passed n K _ e .1) .0)
+centre-fits n K c e = let b = between-true 1 (2 * n + 1) c (test-zero _ 4 0 (omega arith) (passed n K _ e .1) .0) in (b .low, b .high)
 
 pub centre-passed : (n K c : ℕ) → centreRefusal n K c ≡ 0 → Passed n K
 unfolding centreRefusal
@@ -68,14 +66,14 @@ longest-passed n K e = passed n K _ e .0
 
 pub lift-fits : (letter : ℕ) → liftRefusal letter ≡ 0 → (firstLetter ≤ letter) × (letter ≤ lastLetter)
 unfolding liftRefusal
-lift-fits letter e = between-true firstLetter lastLetter letter (test-zero _ 2 0 (omega arith) e .0)
+lift-fits letter e = let c = between-true firstLetter lastLetter letter (test-zero _ 2 0 (omega arith) e .0) in (c .low, c .high)
 
 pub show-fits : (letters ends : List ℕ) (s : ℕ) → showRefusal letters ends s ≡ 0 → (1 ≤ s) × (s ≤ length ends) × Rising (length letters) 0 ends
 unfolding showRefusal
 show-fits letters ends s e =
     let a = test-zero (between 1 (length ends) s) 4 (line6 letters ends 0) (omega arith) e in
     let b = between-true 1 (length ends) s (a .0) in
-    (b .0, b .1, decide-iff (rising? (length letters) 0 ends) .0 (test-zero (decide (rising? (length letters) 0 ends)) 6 0 (omega arith) (a .1) .0))
+    (b .low, b .high, decide-iff (rising? (length letters) 0 ends) .0 (test-zero (decide (rising? (length letters) 0 ends)) 6 0 (omega arith) (a .1) .0))
 
 pub record SplitFits (n K i k : ℕ) : Type 0 where
   pub state : Passed n K
@@ -89,7 +87,7 @@ record-fits n K i k e =
     let a = passed n K _ e in
     let b = test-zero (between 1 K k) 1 (line4 0 n i 0) (omega arith) (a .1) in
     let c = between-true 1 K k (b .0) in
-    record { state = a .0; least = c .0; most = c .1; prefix = between-true 0 n i (test-zero _ 4 0 (omega arith) (b .1) .0) .1 }
+    record { state = a .0; least = c .low; most = c .high; prefix = between-true 0 n i (test-zero _ 4 0 (omega arith) (b .1) .0) .high }
 
 pub split-fits : (n K i k entries : ℕ) → splitRefusal n K i k entries ≡ 0 → SplitFits n K i k × (k ≤ entries)
 unfolding splitRefusal
@@ -98,7 +96,7 @@ split-fits n K i k entries e =
     let b = test-zero (between 1 K k) 1 (line3 k entries (line4 0 n i 0)) (omega arith) (a .1) in
     let c = between-true 1 K k (b .0) in
     let f = test-zero (leb k entries) 3 (line4 0 n i 0) (omega arith) (b .1) in (
-      record { state = a .0; least = c .0; most = c .1; prefix = between-true 0 n i (test-zero _ 4 0 (omega arith) (f .1) .0) .1 },
+      record { state = a .0; least = c .low; most = c .high; prefix = between-true 0 n i (test-zero _ 4 0 (omega arith) (f .1) .0) .high },
       leb-true _ _ (f .0),
     )
 

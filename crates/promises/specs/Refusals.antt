@@ -1,17 +1,14 @@
--- Document 01's two lists of refusals, and for each call the order in which it tests them: 7 first, then the input numbers in
--- rising order but for 5, then 8, 9 or 10, then 5. A call's number is that of the first test that fails, 0 where none does.
--- Numbers 9, 10 and 5 hang on what is found: they are in Replies.antt.
+-- Document 01's two lists of refusals, with document 02's numbers, and for each call the order in which it tests them: 7 first, then
+-- the input numbers in rising order but for 5, then 8, 9 or 10, then 5. A call's number is that of the first test that fails, 0 where
+-- none does. Numbers 9, 10, a record's 5, and 11 with its place hang on what is found: they are in Replies.antt.
 use mathlib.Core.Bool.{Bool, true, false, _&&_, decide}
 use mathlib.Core.List.{List}
 use Prim.Native.Nat.{ℕ, _+_, _*_}
-use lib.Dec.{leb, ltb}
+use lib.Dec.{leb, ltb, eqb}
 use lib.ListN.{length}
 use Rattle.words.specs.Definitions.{mostPicks, mostSections, mostVisits, firstLetter, lastLetter}
 use Rattle.words.specs.Computed.{rising?}
-
--- x is from low to high
-abbrev pub between : ℕ → ℕ → ℕ → Bool
-between low high x = leb low x && leb x high
+use Rattle.words.specs.Ranges.{between}
 
 -- the number where the test fails, else what comes after it
 abbrev pub test : Bool → ℕ → ℕ → ℕ
@@ -36,6 +33,10 @@ line3 least entries after = test (leb least entries) 3 after
 abbrev pub line4 : (low high x after : ℕ) → ℕ
 line4 low high x after = test (between low high x) 4 after
 
+-- 5. document 02: "fills a lent list with the picks ..; a list too short is 5, tested last"
+abbrev pub line5 : (picks entries after : ℕ) → ℕ
+line5 picks entries after = test (leb picks entries) 5 after
+
 -- 6. "Ends not rising strictly from above 0 to exactly the number of lent letters"
 abbrev pub line6 : (letters ends : List ℕ) (after : ℕ) → ℕ
 line6 letters ends after = test (decide (rising? (length letters) 0 ends)) 6 after
@@ -47,6 +48,10 @@ line7 n K after = test (leb n mostPicks && between 1 mostSections K) 7 after
 -- 8. "Feeding with n = 2,048"
 abbrev pub line8 : (n after : ℕ) → ℕ
 line8 n after = test (ltb n mostPicks) 8 after
+
+-- 12. document 02: "after 11, lengths not adding up to the picks"
+abbrev pub line12 : (total picks after : ℕ) → ℕ
+line12 total picks after = test (eqb total picks) 12 after
 
 -- The order of each call: n and K are those stored
 
@@ -86,3 +91,7 @@ showRefusal letters ends s = line4 1 (length ends) s (line6 letters ends 0)
 -- 2
 unfoldable pub liftRefusal : (letter : ℕ) → ℕ
 liftRefusal letter = line2 letter 0
+
+-- 12, 5, after 11: of a record, the picks that its lengths add up to and the picks that it says
+unfoldable pub unfoldRefusal : (total picks entries : ℕ) → ℕ
+unfoldRefusal total picks entries = line12 total picks (line5 picks entries 0)

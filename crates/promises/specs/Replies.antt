@@ -3,15 +3,18 @@
 use mathlib.Core.Bool.{cond}
 use mathlib.Core.List.{List, [], _∷_}
 use mathlib.Core.Option.{Option, some, none}
-use Prim.Native.Nat.{ℕ, zero, suc}
+use Prim.Native.Nat.{ℕ, zero, suc, _-_}
 use lib.Dec.{leb}
-use lib.ListN.{length}
+use lib.ListN.{length, take, drop, getD}
 use Rattle.words.specs.Definitions.{word}
 use Rattle.words.specs.Computed.{longestCentre, nextAfter, radiusAt, visits, splitOf}
 use Rattle.words.specs.Computed.{mask as maskOf}
-use Rattle.promises.specs.Answers.{Said, gave, refused, Reply, reply, filled}
-use Rattle.promises.specs.Refusals.{startRefusal, feedRefusal, maskRefusal, centreRefusal, longestRefusal, splitRefusal, recordRefusal, showRefusal, liftRefusal}
-use Rattle.promises.specs.Record.{recordOf, sectionOf}
+use Rattle.layout.specs.Record.{recordOf}
+use Rattle.layout.specs.Layout.{total}
+use Rattle.layout.specs.Unfolding.{picksOf}
+use Rattle.layout.specs.Reading.{Reading, whole, breaks, reading}
+use Rattle.promises.specs.Answers.{Said, gave, refused, refusedAt, Reply, reply, filled}
+use Rattle.promises.specs.Refusals.{startRefusal, feedRefusal, maskRefusal, centreRefusal, longestRefusal, splitRefusal, recordRefusal, showRefusal, liftRefusal, unfoldRefusal}
 use Rattle.promises.specs.Lifts.{lift}
 use Rattle.promises.specs.Book.{Book, write, Call, start, feed, ask, split, longest, mask, radius, next, fold, lent, fedRow}
 
@@ -101,6 +104,10 @@ replies b (c ∷ cs) = replyTo b c ∷ replies (write b c) cs
 
 -- The calls that are given no state
 
+-- section s of the lent letters begins where the one before it ends
+unfoldable pub sectionOf : (letters ends : List ℕ) (s : ℕ) → List ℕ
+sectionOf letters ends s = take (getD (0 ∷ ends) s 0 - getD (0 ∷ ends) (s - 1) 0) (drop (getD (0 ∷ ends) (s - 1) 0) letters)
+
 -- "A refused show hands back an empty part"
 unfoldable pub shown : (letters ends : List ℕ) (s : ℕ) → List ℕ
 unfolding unless showRefusal sectionOf
@@ -109,3 +116,14 @@ shown letters ends s = unless (showRefusal letters ends s) [] (reply (gave []) (
 unfoldable pub liftReply : (letter : ℕ) → Reply
 unfolding unless liftRefusal
 liftReply letter = unless (liftRefusal letter) [] (gives (lift letter ∷ []))
+
+-- by what was read of the bytes: 11 with its place, then 12 and 5, else the picks at the list's front, and how many
+unfoldable pub unfoldedTo : Reading → (list : List ℕ) → Reply
+unfolding unless unfoldRefusal picksOf
+unfoldedTo (breaks place) list = reply (refusedAt 11 place) list
+unfoldedTo (whole picks fs) list =
+    unless (unfoldRefusal (total fs) picks (length list)) list (reply (gave (picks ∷ [])) (filled (picksOf fs) list))
+
+unfoldable pub unfoldReply : (bytes list : List ℕ) → Reply
+unfolding reading unfoldedTo
+unfoldReply bytes list = unfoldedTo (reading bytes) list

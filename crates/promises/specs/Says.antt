@@ -7,7 +7,7 @@ use lib.ListN.{length, getD}
 use Rattle.words.specs.Definitions.{word, prefix, centre, Joined, Ending, LongestEnding, NextEnding, LongestAt, Visits, Named, bit}
 use Rattle.words.specs.Definitions.{radius as radiusOf}
 use Rattle.promises.specs.Answers.{gave, Reply, reply, filled}
-use Rattle.promises.specs.Record.{recordOf}
+use Rattle.layout.specs.Record.{recordOf}
 use Rattle.promises.specs.Book.{Book, Call, start, feed, ask, split, longest, mask, radius, next, fold, fedRow}
 
 -- "the answer is yes exactly when the prefix is k non-empty palindromes joined": u are the picks, i the prefix; bit k - 1 is for k

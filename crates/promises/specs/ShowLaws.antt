@@ -13,8 +13,7 @@ use Rattle.words.specs.Definitions.{Rising, done, next}
 use Rattle.words.specs.Computed.{rising?, risen-none, risen-next}
 use Rattle.promises.specs.Answers.{gave, reply}
 use Rattle.promises.specs.Refusals.{line6, showRefusal}
-use Rattle.promises.specs.Record.{sectionOf}
-use Rattle.promises.specs.Replies.{shown}
+use Rattle.promises.specs.Replies.{sectionOf, shown}
 use Rattle.promises.specs.Promises.{ShowPromise}
 use Rattle.promises.specs.RefusalLaws.{show-fits}
 use Rattle.promises.specs.BookLaws.{unless-zero, unless-not}

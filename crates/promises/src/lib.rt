@@ -4,12 +4,17 @@ use cells::ByPlace;
 use cells::Centre;
 use cells::Letters;
 
-// The numbers of the refusals that come after a search: no split, no ending with the centre, a record longer than the output.
+// The numbers of the refusals that come after a search: no split, no ending with the centre, a record longer than the output (or
+// its picks more than the list's entries), bytes that are no record, lengths that do not add up to the picks.
 pub const NO_SPLIT: u8 = 9;
 
 pub const NO_ENDING: u8 = 10;
 
 pub const TOO_LONG: u8 = 5;
+
+pub const NO_RECORD: u8 = 11;
+
+pub const UNEQUAL: u8 = 12;
 
 // The state of the board. Any numbers may be stored in it; a start does not look at them, and makes it an empty draft.
 pub struct Draft {
@@ -82,4 +87,12 @@ pub enum RecordAnswer {
 pub enum LiftAnswer {
     Lift(u8),
     Refused(u8),
+}
+
+pub enum UnfoldAnswer {
+    // The count of picks.
+    Unfolded(usize),
+    Refused(u8),
+    // A number with its place.
+    RefusedAt(u8, usize),
 }

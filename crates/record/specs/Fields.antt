@@ -9,7 +9,8 @@ use Rattle.words.specs.Definitions.{stretch}
 use Rattle.words.specs.Mirror.{stretch-length}
 use Rattle.text.specs.Definitions.{comma, lineEnd, decimal}
 use Rattle.text.specs.Decimal.{mostDigits}
-use Rattle.promises.specs.Record.{sectionFields, behindCommas, recordOf}
+use Rattle.layout.specs.Record.{fieldsOf, behindCommas, laidOut, foldedOf, recordOf}
+use Rattle.layout.specs.WrittenLaws.{folded-count}
 
 -- One section, between the ends a and e: a comma, its length, a comma, its first half
 unfoldable pub sectionBytes : (ℕ → ℕ) → ℕ → ℕ → List ℕ
@@ -17,8 +18,8 @@ sectionBytes w a e = comma ∷ [] ++ decimal (e - a) ++ comma ∷ [] ++ stretch 
 
 -- The sections with these ends
 unfoldable pub sectionsBytes : (ℕ → ℕ) → ℕ → List ℕ → List ℕ
-unfolding sectionFields behindCommas
-sectionsBytes w a ends = behindCommas (sectionFields w a ends)
+unfolding fieldsOf behindCommas
+sectionsBytes w a ends = behindCommas (fieldsOf (foldedOf w a ends))
 
 -- Prefix i in so many sections
 unfoldable pub headBytes : ℕ → ℕ → List ℕ
@@ -33,7 +34,7 @@ unfolding sectionsBytes sectionBytes
 sections-next w a e ends =
     let n = decimal (e - a) in
     let half = stretch w a ((e - a + 1) / 2) in
-    let rest = behindCommas (sectionFields w e ends) in
+    let rest = behindCommas (fieldsOf (foldedOf w e ends)) in
     ap (λ bytes. comma ∷ bytes) (sym (append-assoc n (comma ∷ half) rest) ∙ ap (λ bytes. bytes ++ rest) (sym (append-assoc n (comma ∷ []) half)))
 
 -- The sections from number j on begin with the one that ends at e
@@ -45,8 +46,9 @@ pub record-as : (w : ℕ → ℕ) (i : ℕ) (ends : List ℕ) → recordOf w i e
 unfolding recordOf headBytes sectionsBytes
 record-as w i ends =
     let count = decimal (length ends) in
-    let rest = behindCommas (sectionFields w 0 ends) in
-    ap (λ bytes. bytes ++ lineEnd ∷ [])
+    let rest = behindCommas (fieldsOf (foldedOf w 0 ends)) in
+    ap (λ k. decimal i ++ (comma ∷ decimal k ++ rest) ++ lineEnd ∷ []) (folded-count w 0 ends)
+    ∙ ap (λ bytes. bytes ++ lineEnd ∷ [])
     (sym (append-assoc (decimal i) (comma ∷ count) rest) ∙ ap (λ bytes. bytes ++ rest) (sym (append-assoc (decimal i) (comma ∷ []) count)))
 
 -- Lengths, which no letter changes

@@ -13,7 +13,7 @@ use Rattle.models.specs.Stores.{sets-front}
 use Rattle.text.specs.Definitions.{comma, lineEnd, decimal}
 use Rattle.text.specs.Writes.{Writes, both}
 use Rattle.promises.specs.Answers.{gave, refused, reply}
-use Rattle.promises.specs.Record.{recordOf}
+use Rattle.layout.specs.Record.{recordOf}
 use Rattle.promises.specs.Replies.{orTooLong}
 use Rattle.record.specs.Fields.{headBytes, sectionBytes, sectionsBytes, sections-on, sections-done, record-as}
 use Rattle.record.specs.Fields.{headSize, sectionSize, sectionsSize, size-on, length-record}

@@ -7,7 +7,7 @@ ghost use Rattle.words.specs.Definitions.{mostPicks, mostSections, word};
 ghost use Rattle.text.specs.Writes.{Writes};
 ghost use Rattle.text.specs.Decimal.{mostDigits};
 ghost use Rattle.promises.specs.Answers.{recordSays, reply};
-ghost use Rattle.promises.specs.Record.{recordOf};
+ghost use Rattle.layout.specs.Record.{recordOf};
 ghost use Rattle.promises.specs.Replies.{orTooLong};
 ghost use Rattle.record.specs.Fields.{headBytes};
 

@@ -1,7 +1,10 @@
--- The bytes that part fields and close lines, and numbers in decimal.
+-- The bytes that part fields and close lines, numbers in decimal, and a text's bytes.
 use mathlib.Core.Bool.{cond}
 use mathlib.Core.List.{List, [], _∷_, _++_}
 use Prim.Native.Nat.{ℕ, zero, suc, _+_, _/_, _%_}
+use Prim.Native.Char.{code}
+use Prim.Native.String as Text
+use Prim.Native.String.{String}
 use lib.Dec.{ltb}
 
 -- byte 44, byte 10, and the digit 0
@@ -23,3 +26,8 @@ digits (suc most) n = cond (ltb n 10) ((digitZero + n) ∷ []) (digits most (n /
 unfoldable pub decimal : ℕ → List ℕ
 unfolding digits
 decimal n = digits (suc n) n
+
+-- a text's bytes
+unfoldable pub bytes : String → List ℕ
+bytes Text.[] = []
+bytes (Text._∷_ c s) = code c ∷ bytes s

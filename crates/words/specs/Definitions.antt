@@ -29,6 +29,11 @@ firstLetter = 65
 abbrev pub lastLetter : ℕ
 lastLetter = 90
 
+-- x is from a to b
+pub record From (a b x : ℕ) : Type 0 where
+  pub low : a ≤ x
+  pub high : x ≤ b
+
 -- Largest and smallest, for any property of numbers.
 
 -- k is the largest number below b that has P

@@ -13,6 +13,7 @@ pub mod Proposition3
 pub mod Gathering
 pub mod Bits
 pub mod Cases
+pub mod Ranges
 pub mod Splits
 pub mod Rows
 pub mod Prefixes

@@ -143,7 +143,7 @@ named-one {s = s} {t = t} p q = elim (List-discrete ℕ-discrete s t) [
 
 -- Splits and palindromes joined
 
-append-parts : (a b u v : List ℕ) → length a ≡ length u → a ++ b ≡ u ++ v → (a ≡ u) × (b ≡ v)
+pub append-parts : (a b u v : List ℕ) → length a ≡ length u → a ++ b ≡ u ++ v → (a ≡ u) × (b ≡ v)
 append-parts a b u v l e = (
   sym (take-at a b (length a) refl) ∙ ap (λ s. take (length a) s) e ∙ take-at u v (length a) (sym l),
   sym (drop-at a b (length a) refl) ∙ ap (λ s. drop (length a) s) e ∙ drop-at u v (length a) (sym l),

@@ -9,6 +9,8 @@ pub mod calls;
 pub mod cells;
 pub mod engine;
 pub mod iterator;
+pub mod layout;
+pub mod reader;
 pub mod record;
 pub mod refusals;
 pub mod scripts;
@@ -18,9 +20,12 @@ pub mod text;
 
 use calls::lift::lift;
 use calls::show::{show, show_number};
-use cells::{Centre, Centres, Letters, Numbers, Places};
+use cells::{Centre, Centres, Letters, Numbers, Place, Places};
+use layout::{Section, Turn};
+use reader::section::section_at;
+use reader::unfold::unfold;
 use scripts::Lent;
-use state::State;
+use state::{State, UnfoldAnswer};
 use std::slice::{from_raw_parts, from_raw_parts_mut};
 use text::bytes::write_bytes;
 
@@ -101,5 +106,55 @@ pub extern "C" fn drive_lift(letter: u8, answer: &mut [usize; 2]) -> usize {
         Ok(lift) => [0, usize::from(lift)],
         Err(number) => [1, usize::from(number)],
     };
+    0
+}
+
+/// Unfolds a record: its picks fill the front of the list. The answer is 0 and the count
+/// of picks, 1 and the number of the refusal, or 2, the number and its place.
+///
+/// # Safety
+///
+/// Each pointer is that of a slice of the length beside it, and none overlaps another.
+#[no_mangle]
+pub unsafe extern "C" fn drive_unfold(
+    record: *const u8,
+    record_len: usize,
+    picks: *mut u8,
+    picks_len: usize,
+    answer: &mut [usize; 3],
+) -> usize {
+    let record = from_raw_parts(record, record_len);
+    let picks = from_raw_parts_mut(picks, picks_len);
+    *answer = match unfold(record, picks) {
+        UnfoldAnswer::Unfolded(count) => [0, count, 0],
+        UnfoldAnswer::Refused(number) => [1, usize::from(number), 0],
+        UnfoldAnswer::RefusedAt(number, place) => [2, usize::from(number), place],
+    };
+    0
+}
+
+/// The section that a reader yields at a place of a record. The answer is 0 for none, 1
+/// for a turn on a pick or 2 for one between two; its length; the turn's place; and the
+/// place of the next section, for none the place that was given.
+///
+/// # Safety
+///
+/// The pointer is that of a slice of the length beside it.
+#[no_mangle]
+pub unsafe extern "C" fn drive_section(
+    record: *const u8,
+    record_len: usize,
+    at: usize,
+    answer: &mut [usize; 4],
+) -> usize {
+    let found = section_at(from_raw_parts(record, record_len), at);
+    let (kind, length, Place(turn)) = match found.yielded {
+        None => (0, 0, Place(0)),
+        Some(Section { length, turn }) => match turn {
+            Turn::OnPick(pick) => (1, length, pick),
+            Turn::Between(pick) => (2, length, pick),
+        },
+    };
+    *answer = [kind, length, turn, found.next];
     0
 }

@@ -12,3 +12,12 @@ pub struct State<'a> {
 
 /// A call's values, or the number of the refusal.
 pub type Answer<T> = Result<T, u8>;
+
+/// What an unfold answers.
+pub enum UnfoldAnswer {
+    /// The count of picks.
+    Unfolded(usize),
+    Refused(u8),
+    /// A number with its place.
+    RefusedAt(u8, usize),
+}

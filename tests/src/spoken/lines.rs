@@ -19,6 +19,14 @@ pub enum Line {
         ends: Vec<u16>,
     },
     Lift(u8),
+    Unfold {
+        record: Vec<u8>,
+        bytes: usize,
+    },
+    Section {
+        record: Vec<u8>,
+        at: usize,
+    },
     /// Writes n, K and the stored centre.
     Store([usize; 3]),
     Numbers,
@@ -33,9 +41,9 @@ pub enum Line {
 }
 
 /// The word of each line.
-pub const WORDS: [&str; 16] = [
+pub const WORDS: [&str; 18] = [
     "start", "feed", "picks", "mask", "radius", "longest", "next", "split", "record", "show",
-    "lift", "numbers", "poke", "peek", "help", "quit",
+    "lift", "unfold", "section", "numbers", "poke", "peek", "help", "quit",
 ];
 
 /// What the line asks for, one thing after the other; none where it "is no call".
@@ -109,6 +117,14 @@ fn other(word: &[u8], arguments: &[&[u8]]) -> Option<Line> {
             ends: ends.iter().map(|end| fitting(end)).collect::<Option<_>>()?,
         },
         (b"lift", [letter]) => Line::Lift(pick(letter)?),
+        (b"unfold", [record, bytes @ ..]) => Line::Unfold {
+            record: bytes_of(record)?,
+            bytes: size(bytes, OUTPUT)?,
+        },
+        (b"section", [record, at]) => Line::Section {
+            record: bytes_of(record)?,
+            at: number(at)?,
+        },
         (b"numbers", []) => Line::Numbers,
         (b"numbers", [n, k, c]) => Line::Store([fitting(n)?, fitting(k)?, fitting(c)?]),
         (b"poke", [array, index, value]) => poke(entry(array, index)?, value)?,

@@ -1,11 +1,12 @@
-//! Bytes as text: LETTERS as they are read, parts and outputs as they are written.
+//! Bytes as text: LETTERS and records as they are read, parts and outputs as they are
+//! written.
 
 use crate::LINE_END;
 
 /// The word for no letters.
 const NONE: &[u8] = b"-";
 
-/// The bytes of LETTERS, "`-` alone being none": `\n` is byte 10, `\xHH` the byte with
+/// The bytes of a text, "`-` alone being none": `\n` is byte 10, `\xHH` the byte with
 /// these hex digits, of either case, and every other byte stands for itself. None where
 /// an escape is wrong.
 pub fn bytes_of(word: &[u8]) -> Option<Vec<u8>> {

@@ -1,7 +1,8 @@
-//! Lines of the ten calls, good and bad arguments mixed, all in decimal numbers.
+//! Lines of the calls, good and bad arguments mixed, all in decimal numbers and texts.
 
+use comparison::records::{fields_of, random_lengths, record_of};
 use comparison::samples::Generator;
-use comparison::spoken::Console;
+use comparison::spoken::{text_of, Console};
 
 /// Numbers beyond a byte, beyond two bytes, and the largest of a machine word.
 const FAR: [&str; 8] = [
@@ -33,7 +34,7 @@ pub fn session(opening: &str, count: usize, mut line: impl FnMut(usize) -> Strin
 
 /// A line of some call on a draft of n picks. Starts are few, so that the draft grows.
 pub fn some_call(generator: &mut Generator, n: usize) -> String {
-    match generator.below(32) {
+    match generator.below(36) {
         0 => format!("start {}", some_number(generator, 10)),
         1..=10 => some_feed(generator),
         11..=12 => format!("mask {}", some_prefix(generator, n)),
@@ -43,6 +44,8 @@ pub fn some_call(generator: &mut Generator, n: usize) -> String {
         20..=24 => lent(generator, "split", n, 12),
         25..=28 => lent(generator, "record", n, 30),
         29..=30 => some_show(generator),
+        31..=33 => some_unfold(generator),
+        34 => some_section(generator),
         _ => format!("lift {}", some_number(generator, 100)),
     }
 }
@@ -113,4 +116,54 @@ fn some_show(generator: &mut Generator) -> String {
     }
     let ends: String = ends.iter().map(|end| format!(" {end}")).collect();
     format!("show {letters} {s}{ends}")
+}
+
+/// Bytes as a text, which is a word also where there are none.
+fn word_of(bytes: &[u8]) -> String {
+    match bytes {
+        [] => "-".to_string(),
+        _ => text_of(bytes),
+    }
+}
+
+/// A record of up to 12 picks: a field is changed now and then, the first often, and so
+/// is a byte.
+fn some_record(generator: &mut Generator) -> Vec<u8> {
+    let count = 1 + generator.below(4);
+    let sum = count + generator.below(9);
+    let mut fields = fields_of(&random_lengths(generator, count, sum));
+    if generator.below(4) == 0 {
+        let at = generator.below(2) * generator.below(fields.len());
+        fields[at] = some_number(generator, 14);
+    }
+    let mut record = record_of(&fields);
+    let at = generator.below(record.len());
+    match generator.below(9) {
+        0 => record[at] = generator.below(256) as u8,
+        1 => record.insert(at, b"09AZ,\n"[generator.below(6)]),
+        2 => record.truncate(at),
+        _ => {}
+    }
+    record
+}
+
+/// An unfold, sometimes with what it is lent.
+fn some_unfold(generator: &mut Generator) -> String {
+    let record = word_of(&some_record(generator));
+    match generator.below(2) {
+        0 => format!("unfold {record} {}", some_number(generator, 16)),
+        _ => format!("unfold {record}"),
+    }
+}
+
+/// A section, behind some comma of the record mostly.
+fn some_section(generator: &mut Generator) -> String {
+    let record = some_record(generator);
+    let commas = (0..record.len()).filter(|&at| record[at] == b',');
+    let behind: Vec<usize> = commas.map(|at| at + 1).chain([0, record.len()]).collect();
+    let at = match generator.below(4) {
+        0 => some_number(generator, 24),
+        _ => behind[generator.below(behind.len())].to_string(),
+    };
+    format!("section {} {at}", word_of(&record))
 }
