@@ -158,7 +158,7 @@ impl Board {
     }
 
     /// Split a prefix into k sections: the number of the last pick of each, rising, fills the first
-    /// k entries of the list. Gives the turn count. Refused with 7, 1, 3, 4 or 9.
+    /// k entries of the list. Gives the turn count. Refused with 7, 1, 13, 4 or 9.
     ///
     /// ```
     /// # use board::{Board, Place, VISITS};

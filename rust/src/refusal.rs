@@ -35,7 +35,7 @@ pub struct Sentence {
 }
 
 /// The sentences of the numbers, from 1 on.
-pub const SENTENCES: [Sentence; 12] = [
+pub const SENTENCES: [Sentence; 13] = [
     Sentence {
         means: "K is not 1 to 8, or k is not 1 to K",
         remedy: "start with a K of 1 to 8; ask for at most K sections",
@@ -45,8 +45,8 @@ pub const SENTENCES: [Sentence; 12] = [
         remedy: "key a capital letter; a small one, a digit or a blank is refused",
     },
     Sentence {
-        means: "the visit list has under 19 entries, or the ends list under k",
-        remedy: "lend a longer list",
+        means: "the visit list has under 19 entries",
+        remedy: "lend feed a visit list of 19 entries or more",
     },
     Sentence {
         means: "the prefix is longer than the draft, the centre is not 1 to 2n+1, or there is no such section",
@@ -83,6 +83,10 @@ pub const SENTENCES: [Sentence; 12] = [
     Sentence {
         means: "the lengths of the record's sections do not add up to its picks",
         remedy: "compare the record with the one that it was copied from",
+    },
+    Sentence {
+        means: "the ends list has under k entries",
+        remedy: "lend split an ends list of k entries or more; 8 serve for every k",
     },
 ];
 

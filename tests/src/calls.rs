@@ -2,8 +2,9 @@
 //!
 //! "Each call that is given a state, other than start, tests 7 first; every call
 //! then tests those input numbers whose inputs it has, in rising order but for 5,
-//! then 8, 9 or 10, then 5." "A refusal returns its number only; state and lent
-//! buffers keep every byte. On success, entries past those named keep theirs."
+//! then 8, 9 or 10, then 5." Number 13 stands "in the same place of the order" as 3.
+//! "A refusal returns its number only; state and lent buffers keep every byte. On
+//! success, entries past those named keep theirs."
 
 mod asking;
 mod feeding;
@@ -24,7 +25,7 @@ pub use state::State;
 /// A call's values, or the number it is refused with.
 pub type Answer<T> = Result<T, Refusal>;
 
-/// A refusal number, 1 to 12.
+/// A refusal number, 1 to 13.
 pub type Refusal = u8;
 
 /// A refusal of a call that reads a record: "a place coming beside the number where one
@@ -37,8 +38,8 @@ const SECTIONS_OUT_OF_RANGE: Refusal = 1;
 /// 2: pick not A to Z, in feeding or in looking up a lift.
 const NOT_A_PICK: Refusal = 2;
 
-/// 3: visit list under 19 entries, or ends list under k entries.
-const LIST_TOO_SHORT: Refusal = 3;
+/// 3: visit list under 19 entries.
+const VISITS_TOO_SHORT: Refusal = 3;
 
 /// 4: prefix above n, centre outside 1 to 2n+1, or s outside 1 to the number of
 /// ends.
@@ -68,6 +69,9 @@ const NOT_A_RECORD: Refusal = 11;
 
 /// 12: lengths not adding up to the picks.
 const LENGTHS_NOT_THE_PICKS: Refusal = 12;
+
+/// 13: ends list under k entries.
+const ENDS_TOO_SHORT: Refusal = 13;
 
 /// The refusal number when its line is met.
 fn refuse_if(met: bool, number: Refusal) -> Answer<()> {

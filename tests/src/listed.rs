@@ -1,5 +1,5 @@
 //! The refusals that hang on the call's arguments and the stored n and K alone:
-//! numbers 1 to 4, 7 and 8, which hold on any stored state.
+//! numbers 1 to 4, 7, 8 and 13, which hold on any stored state.
 
 use crate::calls::Refusal;
 use crate::plain::{is_most_sections, is_pick};
@@ -20,7 +20,8 @@ pub fn listed(call: Call, n: usize, most_sections: usize) -> Option<Refusal> {
 
 /// "Each call that is given a state, other than start, tests 7 first; every call then
 /// tests those input numbers whose inputs it has, in rising order but for 5, then 8,
-/// 9 or 10, then 5."
+/// 9 or 10, then 5." "A short ends list gets a number of its own in the same place of
+/// the order."
 fn lines(call: Call, n: usize, most_sections: usize) -> Lines {
     let mut lines = match call {
         Call::Start { most_sections } => return line_1_of_start(most_sections),
@@ -34,7 +35,7 @@ fn lines(call: Call, n: usize, most_sections: usize) -> Lines {
         ],
         Call::Split { prefix, k, entries } => vec![
             (k_is_outside(k, most_sections), 1),
-            (entries < u16::from(k), 3),
+            (entries < u16::from(k), 13),
             (usize::from(prefix) > n, 4),
         ],
         Call::Record { prefix, k, .. } => vec![

@@ -1,5 +1,5 @@
 //! The library's board on stored states that no run made: every call ends, within
-//! bounds, and refusals 1 to 4, 7 and 8 are as listed.
+//! bounds, and refusals 1 to 4, 7, 8 and 13 are as listed.
 
 #[path = "support/any_states.rs"]
 mod any_states;

@@ -42,7 +42,8 @@ fn many_visits(n: usize) -> Board {
     board
 }
 
-/// A call of each kind with arguments that no line of 1 to 4 refuses on a good state.
+/// A call of each kind with arguments that no line of 1 to 4 and 13 refuses on a good
+/// state.
 fn good_calls(n: usize) -> [Call; 8] {
     let prefix = n.min(MOST_PICKS) as u16;
     [
@@ -104,9 +105,9 @@ fn every_stored_k() {
     }
 }
 
-/// A call of each kind with an argument that a line of 1 to 4 refuses on every state
-/// but one of line 7.
-fn bad_calls() -> [Call; 7] {
+/// Calls with an argument that a line of 1 to 4 or 13 refuses on every state but one of
+/// line 7.
+fn bad_calls() -> [Call; 8] {
     [
         Call::Start { most_sections: 9 },
         Call::Feed {
@@ -117,6 +118,11 @@ fn bad_calls() -> [Call; 7] {
             prefix: 0,
             k: 0,
             entries: 1,
+        },
+        Call::Split {
+            prefix: 0,
+            k: 1,
+            entries: 0,
         },
         Call::Mask { prefix: u16::MAX },
         Call::Radius { centre: 0 },

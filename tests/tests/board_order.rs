@@ -1,6 +1,6 @@
 //! Which number the library gives when the lines of several are met: every subset of
 //! the lines of each call. 7 first, then the input numbers in rising order but for 5,
-//! then 8, 9 or 10, then 5.
+//! 13 in the place of 3, then 8, 9 or 10, then 5.
 
 use comparison::beside::{BYTE, ENTRY};
 use comparison::calls::Refusal;
@@ -55,13 +55,13 @@ fn feed() {
 /// AB is two sections, and not one.
 #[test]
 fn split() {
-    assert_order(&[7, 1, 3, 4, 9], |meets| {
+    assert_order(&[7, 1, 13, 4, 9], |meets| {
         let k = match (meets(1), meets(9)) {
             (true, _) => 200,
             (false, true) => 1,
             (false, false) => 2,
         };
-        let entries = u16::from(k) - u16::from(meets(3));
+        let entries = u16::from(k) - u16::from(meets(13));
         let prefix = if meets(4) { 3 } else { 2 };
         let board = stored(b"AB", meets(7));
         (board, Call::Split { prefix, k, entries })

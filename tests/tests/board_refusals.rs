@@ -1,5 +1,5 @@
-//! The library's refusal numbers on both sides of each bound, with the number that
-//! document 01 names; each call is compared with the book too, and keeps its bytes.
+//! The library's refusal numbers on both sides of each bound, with the number that the
+//! documents name; each call is compared with the book too, and keeps its bytes.
 
 use comparison::beside::Beside;
 use comparison::library::Board;
@@ -59,7 +59,7 @@ fn number_2() {
 
 /// 3: lists of 0 to 40 entries in a feed; 18 and 19 among them.
 #[test]
-fn number_3_in_feed() {
+fn number_3() {
     for entries in 0..=40 {
         let mut run = Beside::fed(b"AB", MOST_SECTIONS);
         let number = (entries < 19).then_some(3);
@@ -68,17 +68,17 @@ fn number_3_in_feed() {
     }
 }
 
-/// 3: lists of k-1, k and k+1 entries in a split.
+/// 13: lists of 0 to 40 entries in a split into each k; k-1 and k among them.
 #[test]
-fn number_3_in_split() {
+fn number_13() {
     let mut run = Beside::fed(b"AAAAAAAA", MOST_SECTIONS);
     for k in 1..=8 {
-        let entries = u16::from(k);
-        assert_eq!(run.make(split(8, k, 0)), Err(3));
-        assert_eq!(run.make(split(8, k, entries - 1)), Err(3), "k {k}");
-        let turns = given([k.into()]);
-        assert_eq!(run.make(split(8, k, entries)), turns);
-        assert_eq!(run.make(split(8, k, entries + 1)), turns);
+        for entries in 0..=40 {
+            let is_short = entries < u16::from(k);
+            let reply = if is_short { Err(13) } else { given([k.into()]) };
+            let case = format!("k {k}, {entries} entries");
+            assert_eq!(run.make(split(8, k, entries)), reply, "{case}");
+        }
     }
 }
 

@@ -30,7 +30,7 @@ fn the_whole_of_what_is_lent() {
     compare_session(true, include_str!("support/sessions/whole_lists.txt"));
 }
 
-/// The numbers of each call in their order: feed 7, 2, 3, 8; split 7, 1, 3, 4, 9; record
+/// The numbers of each call in their order: feed 7, 2, 3, 8; split 7, 1, 13, 4, 9; record
 /// 7, 1, 4, 9, 5; next shorter ending 7, 4, 10; show 4, 6; the others.
 #[test]
 fn the_order_of_numbers() {
@@ -58,6 +58,7 @@ fn a_full_draft() {
 fn both_sides_of_each_bound() {
     let mut input = String::from("start 8\npicks ABACDDC\n");
     for at in 0..=17 {
+        input += &format!("feed A {at}\n");
         input += &format!("mask {at}\nradius {at}\nnext {at}\nsplit {at} 2\nsplit 7 {at}\n");
         input += &format!("split 7 5 {at}\nrecord {at} 2\nrecord 7 {at}\nrecord 7 2 {at}\n");
         input += &format!("show ABACDDC {at} 3 7\nshow ABACDDC 2 {at} 7\nshow ABACDDC 1 3 {at}\n");
@@ -67,8 +68,8 @@ fn both_sides_of_each_bound() {
     }
     for all in [false, true] {
         let times = refusals(&compare(all, &input));
-        let given = [1, 3, 4, 5, 6, 9, 10].map(|number| times[number] > 0);
-        assert_eq!(given, [true; 7], "numbers among the answers: {times:?}");
+        let given = [1, 3, 4, 5, 6, 9, 10, 13].map(|number| times[number] > 0);
+        assert_eq!(given, [true; 8], "numbers among the answers: {times:?}");
     }
 }
 

@@ -54,7 +54,7 @@ fn next_shorter_ending() {
     assert_eq!(calls::next_centre(&full(8), 1), Err(10));
 }
 
-/// Split: 7, then 1, then 3, then 4, then 9.
+/// Split: 7, then 1, then 13, then 4, then 9.
 #[test]
 fn split() {
     let state = fed(b"AB", MOST_SECTIONS);
@@ -68,8 +68,8 @@ fn split() {
     assert_eq!(calls::split(&state, 2, 9, &mut []), Err(1));
     assert_eq!(calls::split(&state, 3, 0, &mut []), Err(1));
     assert_eq!(calls::split(&state, 2, 0, &mut [0]), Err(1));
-    assert_eq!(calls::split(&state, 3, 1, &mut []), Err(3));
-    assert_eq!(calls::split(&state, 2, 1, &mut []), Err(3));
+    assert_eq!(calls::split(&state, 3, 1, &mut []), Err(13));
+    assert_eq!(calls::split(&state, 2, 1, &mut []), Err(13));
     assert_eq!(calls::split(&state, 3, 1, &mut [0]), Err(4));
     assert_eq!(calls::split(&state, 2, 1, &mut [0]), Err(9));
 }

@@ -73,7 +73,7 @@ fn number_2_in_feed_and_lift() {
 }
 
 #[test]
-fn number_3_in_feed() {
+fn number_3() {
     for (entries, expected) in [(0, Some(3)), (18, Some(3)), (19, None), (20, None)] {
         let mut state = fed(b"AB", MOST_SECTIONS);
         let answer = calls::feed(&mut state, b'C', &mut vec![0; entries]);
@@ -82,10 +82,10 @@ fn number_3_in_feed() {
 }
 
 #[test]
-fn number_3_in_split() {
+fn number_13() {
     let state = fed(b"AAAAAAAA", MOST_SECTIONS);
     for k in 1..=MOST_SECTIONS {
-        assert_eq!(calls::split(&state, 8, k, &mut vec![0; k - 1]), Err(3));
+        assert_eq!(calls::split(&state, 8, k, &mut vec![0; k - 1]), Err(13));
         assert_eq!(calls::split(&state, 8, k, &mut vec![0; k]), Ok(k));
         assert_eq!(calls::split(&state, 8, k, &mut vec![0; k + 1]), Ok(k));
     }

@@ -61,7 +61,7 @@ fn split_by_book(book: &Book, i: usize, k: usize, entries: usize) -> (Answer<usi
         return (Err(1), Vec::new());
     }
     if entries < k {
-        return (Err(3), Vec::new());
+        return (Err(13), Vec::new());
     }
     if i > book.row.len() {
         return (Err(4), Vec::new());

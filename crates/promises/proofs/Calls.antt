@@ -26,9 +26,10 @@ pub listed-tested : (n K : ℕ) (call : Call) → Tested (listed n K call) (refu
 unfolding listed refusalOf startRefusal feedRefusal splitRefusal longestRefusal maskRefusal centreRefusal recordRefusal
 listed-tested n K (start k) = check-outside 1 1 mostSections k [] 0 (λ e. omega arith) over
 listed-tested n K (feed pick visits) = check-draft n K _ _ (λ h.
-    check-outside 2 firstLetter lastLetter pick _ _ (λ e. omega arith) (check-list mostVisits (length visits) _ _ (check-full n [] 0 h over)))
+    check-outside 2 firstLetter lastLetter pick _ _ (λ e. omega arith)
+    (check-list 3 mostVisits (length visits) _ _ (λ e. omega arith) (check-full n [] 0 h over)))
 listed-tested n K (ask (split i k ends)) = check-draft n K _ _ (λ _.
-    check-outside 1 1 K k _ _ (λ e. omega arith) (check-list k (length ends) _ _ (check-prefix n i [] 0 over)))
+    check-outside 1 1 K k _ _ (λ e. omega arith) (check-list 13 k (length ends) _ _ (λ e. omega arith) (check-prefix n i [] 0 over)))
 listed-tested n K (ask longest) = check-draft n K [] 0 (λ _. over)
 listed-tested n K (ask (mask i)) = check-draft n K _ _ (λ _. check-prefix n i [] 0 over)
 listed-tested n K (ask (radius c)) = check-draft n K _ _ (λ _. check-outside 4 1 (2 * n + 1) c [] 0 (λ e. omega arith) over)

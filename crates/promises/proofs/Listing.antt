@@ -3,7 +3,7 @@ use mathlib.Core.Path.{_≡_, refl, sym, _∙_}
 use mathlib.Core.Bool.{Bool, true, false, _&&_, decide, decide-iff, and-eq-true-iff}
 use mathlib.Core.Logic.{_≢_, inl, inr}
 use mathlib.Core.List.{List, [], _∷_, _++_}
-use Prim.Native.Nat.{ℕ, _+_, _≤_}
+use Prim.Native.Nat.{ℕ, _+_, _≤_, _<_}
 use native.Mathlib.Omega.{arith}
 use native.Mathlib.Decide.{decLt}
 use lib.Dec.{leb, ltb}
@@ -11,10 +11,10 @@ use lib.ListN.{length}
 use borrow.Author.Tests.{leb-true, ltb-true, le-leb, lt-ltb}
 use Rattle.words.specs.Definitions.{mostPicks, mostSections, firstLetter, lastLetter}
 use Rattle.words.specs.Computed.{rising?}
-use Rattle.promises.specs.Refusals.{test, line3, line4, line6, line7, line8, showRefusal, liftRefusal}
+use Rattle.promises.specs.Refusals.{test, line4, line6, line7, line8, showRefusal, liftRefusal}
 use Rattle.words.specs.Cases.{true-false}
 use Rattle.words.specs.Ranges.{between, between-true}
-use Rattle.promises.specs.Listed.{Line, line, First, NoneMet, Outside, shortList, prefixAbove, endsNotRising, noDraft, full, showLines, liftLines}
+use Rattle.promises.specs.Listed.{Line, line, First, NoneMet, Outside, prefixAbove, endsNotRising, noDraft, full, showLines, liftLines}
 
 -- The first line that is met is one, and there is none where none is met
 
@@ -103,8 +103,9 @@ pub check-outside : (number low high x : ℕ) (ls : List Line) (after : ℕ) →
 check-outside number low high x ls after z k =
     check (line number (Outside low high x)) ls (between low high x) after z (outside-met low high x) (inside-not low high x) (λ _. k)
 
-pub check-list : (least entries : ℕ) (ls : List Line) (after : ℕ) → Tested ls after → Tested (shortList least entries ∷ ls) (line3 least entries after)
-check-list least entries ls after k = check (shortList least entries) ls (leb least entries) after (λ e. omega arith)
+pub check-list : (number least entries : ℕ) (ls : List Line) (after : ℕ) → number ≢ 0 → Tested ls after
+    → Tested (line number (entries < least) ∷ ls) (test (leb least entries) number after)
+check-list number least entries ls after z k = check (line number (entries < least)) ls (leb least entries) after z
     (λ e. elim (decLt entries least) [ yes l ↦ l | no l ↦ absurd (true-false (le-leb least entries (omega arith)) e) ])
     (λ e l. omega (arith, leb-true least entries e)) (λ _. k)
 

@@ -52,7 +52,8 @@ soughtNumbers call = map (λ l. l .number) (sought [] call)
 
 -- for one call, on any state whatever
 pub record Demand1 (d : Draft) (m : Made) : Type 0 where
-  -- of the lines that need no letters, 1 to 4, 7 and 8, the first that the call meets gives the number: "there 1 to 4 and 8 still hold"
+  -- of the lines that need no letters, 1 to 4, 7, 8 and 13, the first that the call meets gives the number: "there 1 to 4 and 8 still hold",
+  -- and document 02's numbers for bad input "hold as 1 to 4 do"
   pub refuses : (number : ℕ) → First (listed (d .n) (d .k) (callOf m)) number → replyOf m .said ≡ refused number
   -- "Each number is given only under its line": a call that meets none of these can be refused only by what is found
   pub otherwise : NoneMet (listed (d .n) (d .k) (callOf m)) → (number : ℕ) → Under (replyOf m .said) number

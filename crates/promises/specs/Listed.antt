@@ -1,5 +1,6 @@
 -- Document 01's two lists of refusals as propositions, with document 02's numbers: each line under its words, and for each call the lines
--- that it can meet, in the order in which they are tested: 7 first, then the input numbers in rising order but for 5, then 8, 9 or 10, then 5.
+-- that it can meet, in the order in which they are tested: 7 first, then the input numbers in rising order but for 5, with 13 in the place
+-- of 3, then 8, 9 or 10, then 5.
 use mathlib.Core.Path.{_≡_}
 use mathlib.Core.Logic.{_≢_, _⊎_}
 use mathlib.Core.List.{List, [], _∷_, _++_}
@@ -42,9 +43,9 @@ outsideSections most k = line 1 (Outside 1 most k)
 abbrev pub noLetter : (pick : ℕ) → Line
 noLetter pick = line 2 (Outside firstLetter lastLetter pick)
 
--- 3. "Visit list under 19 entries, or ends list under k entries": least is 19 or k
-abbrev pub shortList : (least entries : ℕ) → Line
-shortList least entries = line 3 (entries < least)
+-- 3. "Visit list under 19 entries"
+abbrev pub shortVisits : (entries : ℕ) → Line
+shortVisits entries = line 3 (entries < mostVisits)
 
 -- 4. "Prefix above n, centre outside 1 to 2n+1, or s outside 1 to the number of ends"
 abbrev pub prefixAbove : (n i : ℕ) → Line
@@ -76,6 +77,10 @@ noRecord bytes = line 11 (Layout bytes → ⊥)
 abbrev pub lengthsDiffer : (bytes : List ℕ) → Line
 lengthsDiffer bytes = line 12 ((picks : ℕ) × (fs : List Folded) × Laid bytes picks fs × (total fs ≢ picks))
 
+-- 13. document 02, "ends list under k entries"
+abbrev pub shortEnds : (k entries : ℕ) → Line
+shortEnds k entries = line 13 (entries < k)
+
 -- Refused because of the state
 
 -- 7. "Stored n above 2,048 or stored K outside 1 to 8"
@@ -96,11 +101,11 @@ noEnding u c = line 10 ((len : ℕ) → 0 < len → Ending (word u) (length u) l
 
 -- The lines that a call can meet
 
--- by its arguments and the stored n and K: 7, 1, 2, 3, 4, 8. "Start doesn't look at it": at 7
+-- by its arguments and the stored n and K: 7, 1, 2, 3, 13, 4, 8. "Start doesn't look at it": at 7
 unfoldable pub listed : (n K : ℕ) → Call → List Line
 listed n K (start k) = outsideSections mostSections k ∷ []
-listed n K (feed pick visits) = noDraft n K ∷ noLetter pick ∷ shortList mostVisits (length visits) ∷ full n ∷ []
-listed n K (ask (split i k ends)) = noDraft n K ∷ outsideSections K k ∷ shortList k (length ends) ∷ prefixAbove n i ∷ []
+listed n K (feed pick visits) = noDraft n K ∷ noLetter pick ∷ shortVisits (length visits) ∷ full n ∷ []
+listed n K (ask (split i k ends)) = noDraft n K ∷ outsideSections K k ∷ shortEnds k (length ends) ∷ prefixAbove n i ∷ []
 listed n K (ask longest) = noDraft n K ∷ []
 listed n K (ask (mask i)) = noDraft n K ∷ prefixAbove n i ∷ []
 listed n K (ask (radius c)) = noDraft n K ∷ centreOutside n c ∷ []

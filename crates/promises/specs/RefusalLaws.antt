@@ -11,7 +11,7 @@ use borrow.Author.Tests.{leb-true, ltb-true, le-leb, lt-leb, le-ltb, lt-ltb}
 use Rattle.words.specs.Definitions.{mostPicks, mostSections, mostVisits, firstLetter, lastLetter, Rising}
 use Rattle.words.specs.Computed.{rising?}
 use Rattle.words.specs.Ranges.{between, between-true}
-use Rattle.promises.specs.Refusals.{test, line1, line2, line3, line4, line6, line7, line8, startRefusal, feedRefusal, maskRefusal, centreRefusal, longestRefusal, splitRefusal, recordRefusal, showRefusal, liftRefusal}
+use Rattle.promises.specs.Refusals.{test, line1, line2, line3, line4, line6, line7, line8, line13, startRefusal, feedRefusal, maskRefusal, centreRefusal, longestRefusal, splitRefusal, recordRefusal, showRefusal, liftRefusal}
 
 test-zero : (t : Bool) (number after : ℕ) → 0 < number → test t number after ≡ 0 → (t ≡ true) × (after ≡ 0)
 test-zero true number after l e = (refl, e)
@@ -43,7 +43,7 @@ pub feed-fits : (n K pick entries : ℕ) → feedRefusal n K pick entries ≡ 0 
 unfolding feedRefusal
 feed-fits n K pick entries e =
     let a = passed n K _ e in
-    let b = test-zero (between firstLetter lastLetter pick) 2 (line3 mostVisits entries (line8 n 0)) (omega arith) (a .1) in
+    let b = test-zero (between firstLetter lastLetter pick) 2 (line3 entries (line8 n 0)) (omega arith) (a .1) in
     let c = test-zero (leb mostVisits entries) 3 (line8 n 0) (omega arith) (b .1) in
     let f = test-zero (ltb n mostPicks) 8 0 (omega arith) (c .1) in
     record { state = a .0; room = ltb-true _ _ (f .0); enough = leb-true _ _ (c .0) }
@@ -93,9 +93,9 @@ pub split-fits : (n K i k entries : ℕ) → splitRefusal n K i k entries ≡ 0 
 unfolding splitRefusal
 split-fits n K i k entries e =
     let a = passed n K _ e in
-    let b = test-zero (between 1 K k) 1 (line3 k entries (line4 0 n i 0)) (omega arith) (a .1) in
+    let b = test-zero (between 1 K k) 1 (line13 k entries (line4 0 n i 0)) (omega arith) (a .1) in
     let c = between-true 1 K k (b .0) in
-    let f = test-zero (leb k entries) 3 (line4 0 n i 0) (omega arith) (b .1) in (
+    let f = test-zero (leb k entries) 13 (line4 0 n i 0) (omega arith) (b .1) in (
       record { state = a .0; least = c .low; most = c .high; prefix = between-true 0 n i (test-zero _ 4 0 (omega arith) (f .1) .0) .high },
       leb-true _ _ (f .0),
     )
@@ -111,7 +111,7 @@ or-else true number after = refl
 or-else false number after = refl
 
 pub feed-order : (n K pick entries : ℕ)
-    → orElse (line7 n K 0) (orElse (line2 pick 0) (orElse (line3 mostVisits entries 0) (line8 n 0))) ≡ feedRefusal n K pick entries
+    → orElse (line7 n K 0) (orElse (line2 pick 0) (orElse (line3 entries 0) (line8 n 0))) ≡ feedRefusal n K pick entries
 unfolding feedRefusal
 feed-order n K pick entries =
     or-else (leb n mostPicks && between 1 mostSections K) 6 _
@@ -130,11 +130,11 @@ centre-order n K last c f = or-else (leb n mostPicks && between 1 mostSections K
 ]
 
 pub split-order : (n K i k entries : ℕ)
-    → orElse (line7 n K 0) (orElse (line1 K k 0) (orElse (line3 k entries 0) (line4 0 n i 0))) ≡ splitRefusal n K i k entries
+    → orElse (line7 n K 0) (orElse (line1 K k 0) (orElse (line13 k entries 0) (line4 0 n i 0))) ≡ splitRefusal n K i k entries
 unfolding splitRefusal
 split-order n K i k entries =
     or-else (leb n mostPicks && between 1 mostSections K) 6 _
-    ∙ ap (line7 n K) (or-else (between 1 K k) 0 _ ∙ ap (line1 K k) (or-else (leb k entries) 2 _))
+    ∙ ap (line7 n K) (or-else (between 1 K k) 0 _ ∙ ap (line1 K k) (or-else (leb k entries) 12 _))
 
 pub record-order : (n K i k : ℕ) → orElse (line7 n K 0) (orElse (line1 K k 0) (line4 0 n i 0)) ≡ recordRefusal n K i k
 unfolding recordRefusal

@@ -1,6 +1,6 @@
 -- Document 01's two lists of refusals, with document 02's numbers, and for each call the order in which it tests them: 7 first, then
--- the input numbers in rising order but for 5, then 8, 9 or 10, then 5. A call's number is that of the first test that fails, 0 where
--- none does. Numbers 9, 10, a record's 5, and 11 with its place hang on what is found: they are in Replies.antt.
+-- the input numbers in rising order but for 5, with 13 in the place of 3, then 8, 9 or 10, then 5. A call's number is that of the first
+-- test that fails, 0 where none does. Numbers 9, 10, a record's 5, and 11 with its place hang on what is found: they are in Replies.antt.
 use mathlib.Core.Bool.{Bool, true, false, _&&_, decide}
 use mathlib.Core.List.{List}
 use Prim.Native.Nat.{ℕ, _+_, _*_}
@@ -25,9 +25,9 @@ line1 most k after = test (between 1 most k) 1 after
 abbrev pub line2 : (pick after : ℕ) → ℕ
 line2 pick after = test (between firstLetter lastLetter pick) 2 after
 
--- 3. "Visit list under 19 entries, or ends list under k entries": least is 19 or k
-abbrev pub line3 : (least entries after : ℕ) → ℕ
-line3 least entries after = test (leb least entries) 3 after
+-- 3. "Visit list under 19 entries"
+abbrev pub line3 : (entries after : ℕ) → ℕ
+line3 entries after = test (leb mostVisits entries) 3 after
 
 -- 4. "Prefix above n, centre outside 1 to 2n+1, or s outside 1 to the number of ends"
 abbrev pub line4 : (low high x after : ℕ) → ℕ
@@ -53,6 +53,10 @@ line8 n after = test (ltb n mostPicks) 8 after
 abbrev pub line12 : (total picks after : ℕ) → ℕ
 line12 total picks after = test (eqb total picks) 12 after
 
+-- 13. document 02: "ends list under k entries"
+abbrev pub line13 : (k entries after : ℕ) → ℕ
+line13 k entries after = test (leb k entries) 13 after
+
 -- The order of each call: n and K are those stored
 
 -- "Start doesn't look at it": at 7
@@ -61,7 +65,7 @@ startRefusal K = line1 mostSections K 0
 
 -- 7, 2, 3, 8
 unfoldable pub feedRefusal : (n K pick entries : ℕ) → ℕ
-feedRefusal n K pick entries = line7 n K (line2 pick (line3 mostVisits entries (line8 n 0)))
+feedRefusal n K pick entries = line7 n K (line2 pick (line3 entries (line8 n 0)))
 
 -- 7, 4
 unfoldable pub maskRefusal : (n K i : ℕ) → ℕ
@@ -75,9 +79,9 @@ centreRefusal n K c = line7 n K (line4 1 (2 * n + 1) c 0)
 unfoldable pub longestRefusal : (n K : ℕ) → ℕ
 longestRefusal n K = line7 n K 0
 
--- 7, 1, 3, 4, and on to 9
+-- 7, 1, 13, 4, and on to 9
 unfoldable pub splitRefusal : (n K i k entries : ℕ) → ℕ
-splitRefusal n K i k entries = line7 n K (line1 K k (line3 k entries (line4 0 n i 0)))
+splitRefusal n K i k entries = line7 n K (line1 K k (line13 k entries (line4 0 n i 0)))
 
 -- 7, 1, 4, and on to 9 and 5
 unfoldable pub recordRefusal : (n K i k : ℕ) → ℕ

@@ -1,7 +1,7 @@
-// The numbers of the refusals: each line of document 01's lists, and for each call the first that it meets. 0 is none.
+// The numbers of the refusals: each line of the documents' lists, and for each call the first that it meets. 0 is none.
 // Number 6 stands with show; 9, 10 and 5 come after a search, with the calls that make it.
 ghost use mathlib.Core.Path.{_≡_};
-ghost use Rattle.promises.specs.Refusals.{line1, line2, line3, line4, line7, line8, startRefusal, feedRefusal, maskRefusal, centreRefusal, longestRefusal, splitRefusal, recordRefusal, liftRefusal};
+ghost use Rattle.promises.specs.Refusals.{line1, line2, line3, line4, line7, line8, line13, startRefusal, feedRefusal, maskRefusal, centreRefusal, longestRefusal, splitRefusal, recordRefusal, liftRefusal};
 ghost use Rattle.promises.specs.RefusalLaws.{orElse};
 ghost use Prim.Native.Nat.{_+_, _*_, _≤_};
 ghost use Rattle.words.specs.Definitions.{mostPicks};
@@ -40,11 +40,11 @@ fn line2(pick: u8) -> u8
     0
 }
 
-// 3: a list that is too short.
-fn line3(least: usize, entries: usize) -> u8
-    ensures { λ r. ⌜ r ≡ line3 least entries 0 ⌝ }
+// 3: a visit list that is too short.
+fn line3(entries: usize) -> u8
+    ensures { λ r. ⌜ r ≡ line3 entries 0 ⌝ }
 {
-    if entries < least {
+    if entries < VISITS {
         return 3;
     }
     0
@@ -89,6 +89,16 @@ fn line8(n: usize) -> u8
     0
 }
 
+// 13: an ends list that is too short.
+fn line13(k: usize, entries: usize) -> u8
+    ensures { λ r. ⌜ r ≡ line13 k entries 0 ⌝ }
+{
+    if entries < k {
+        return 13;
+    }
+    0
+}
+
 // The first of two numbers that is not 0.
 pub fn first(a: u8, b: u8) -> u8
     ensures { λ r. ⌜ r ≡ orElse a b ⌝ }
@@ -109,7 +119,7 @@ pub fn feed_refusal(held: Numbers, pick: u8, entries: usize) -> u8
 {
     let state = line7(held.n, held.k);
     let letter = line2(pick);
-    let list = line3(VISITS, entries);
+    let list = line3(entries);
     let room = line8(held.n);
     first(state, first(letter, first(list, room)))
 }
@@ -151,7 +161,7 @@ pub fn split_refusal(held: Numbers, i: Place, k: u8, entries: usize) -> u8
 {
     let state = line7(held.n, held.k);
     let sections = line1(held.k, k);
-    let list = line3(k as usize, entries);
+    let list = line13(k as usize, entries);
     let prefix = line4(0, held.n, i.0);
     first(state, first(sections, first(list, prefix)))
 }

@@ -1,4 +1,4 @@
-//! The numbers of the refusals: each line of document 01's lists, and for each call the
+//! The numbers of the refusals: each line of the documents' lists, and for each call the
 //! first that it meets. 0 is none. Number 6 stands with show; 9, 10 and 5 come after a
 //! search, with the calls that make it.
 
@@ -24,9 +24,9 @@ fn line2(pick: u8) -> u8 {
     line(2, pick < FIRST_LETTER || LAST_LETTER < pick)
 }
 
-/// 3: a list that is too short.
-fn line3(least: usize, entries: usize) -> u8 {
-    line(3, entries < least)
+/// 3: a visit list that is too short.
+fn line3(entries: usize) -> u8 {
+    line(3, entries < VISITS)
 }
 
 /// 4: x outside low to high.
@@ -42,6 +42,11 @@ fn line7(n: usize, most: usize) -> u8 {
 /// 8: no room for a pick.
 fn line8(n: usize) -> u8 {
     line(8, PICKS <= n)
+}
+
+/// 13: an ends list that is too short.
+fn line13(k: usize, entries: usize) -> u8 {
+    line(13, entries < k)
 }
 
 /// The first of the numbers that is not 0, where there is one.
@@ -61,7 +66,7 @@ pub fn start_refusal(sections: usize) -> Answer<()> {
 pub fn feed_refusal(held: Numbers, pick: u8, entries: usize) -> Answer<()> {
     let stored = line7(held.n, held.k);
     let letter = line2(pick);
-    let list = line3(VISITS, entries);
+    let list = line3(entries);
     let room = line8(held.n);
     first(&[stored, letter, list, room])
 }
@@ -98,7 +103,7 @@ pub fn longest_refusal(held: Numbers) -> Answer<()> {
 pub fn split_refusal(held: Numbers, i: Place, k: usize, entries: usize) -> Answer<()> {
     let stored = line7(held.n, held.k);
     let sections = line1(held.k, k);
-    let list = line3(k, entries);
+    let list = line13(k, entries);
     let prefix = line4(0, held.n, i.0);
     first(&[stored, sections, list, prefix])
 }

@@ -1,8 +1,8 @@
 //! Start and feed.
 
 use super::{
-    refuse_if, write_front, Answer, State, DRAFT_FULL, LIST_TOO_SHORT, NOT_A_PICK,
-    SECTIONS_OUT_OF_RANGE,
+    refuse_if, write_front, Answer, State, DRAFT_FULL, NOT_A_PICK, SECTIONS_OUT_OF_RANGE,
+    VISITS_TOO_SHORT,
 };
 use crate::plain::{is_most_sections, is_pick};
 use crate::{MOST_PICKS, VISIT_ROOM};
@@ -26,7 +26,7 @@ pub fn start(state: &mut State, most_sections: usize) -> Answer<()> {
 pub fn feed(state: &mut State, pick: u8, visit_list: &mut [u16]) -> Answer<Taken> {
     state.check()?;
     refuse_if(!is_pick(pick), NOT_A_PICK)?;
-    refuse_if(visit_list.len() < VISIT_ROOM, LIST_TOO_SHORT)?;
+    refuse_if(visit_list.len() < VISIT_ROOM, VISITS_TOO_SHORT)?;
     refuse_if(state.n == MOST_PICKS, DRAFT_FULL)?;
     state.letters[state.n] = pick;
     state.n += 1;

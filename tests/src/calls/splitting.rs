@@ -1,6 +1,6 @@
 //! Split and the folded record.
 
-use super::{refuse_if, write_front, Answer, State, LIST_TOO_SHORT, NO_SPLIT, OUTPUT_TOO_SHORT};
+use super::{refuse_if, write_front, Answer, State, ENDS_TOO_SHORT, NO_SPLIT, OUTPUT_TOO_SHORT};
 use crate::plain;
 
 /// "Split: a prefix i and a k. It fills the first k entries of a lent list of
@@ -9,7 +9,7 @@ use crate::plain;
 pub fn split(state: &State, i: usize, k: usize, ends_list: &mut [u16]) -> Answer<usize> {
     state.check()?;
     state.check_sections(k)?;
-    refuse_if(ends_list.len() < k, LIST_TOO_SHORT)?;
+    refuse_if(ends_list.len() < k, ENDS_TOO_SHORT)?;
     state.check_prefix(i)?;
     let ends = named_ends(state, i, k)?;
     write_front(ends_list, &ends);

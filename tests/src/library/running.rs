@@ -51,7 +51,7 @@ impl Lent {
 fn reply(answer: &[usize]) -> Reply {
     match *answer {
         [0, first, second, third] => Ok([first, second, third]),
-        [1, number @ 1..=10, 0, 0] => Err(number as Refusal),
+        [1, number @ (1..=10 | 13), 0, 0] => Err(number as Refusal),
         _ => panic!("{answer:?} is no answer"),
     }
 }

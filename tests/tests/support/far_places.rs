@@ -13,7 +13,7 @@ const PLACES: [(&str, u128, &str); 24] = [
     ("radius N", 8, "refused 4"),
     ("next N", 11, "refused 4"),
     ("split N 2", 7, "refused 4"),
-    ("split N 2 1", 7, "refused 3"),
+    ("split N 2 1", 7, "refused 13"),
     ("split 7 N", 2, "refused 1"),
     ("split 7 N", 8, "refused 1"),
     ("split 7 N 2", 2, "refused 1"),

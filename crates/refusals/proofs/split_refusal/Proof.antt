@@ -10,7 +10,7 @@ returns c =
       split-order (a .held .n) (a .held .k) (a .i .0) (a .k) (a .entries),
       c .before .before .before .before .before .before .line7 .ensures,
       c .before .before .before .before .before .line1 .ensures,
-      c .before .before .before .before .line3 .ensures,
+      c .before .before .before .before .line13 .ensures,
       c .before .before .before .line4 .ensures,
       c .before .before .first .ensures,
       c .before .first2 .ensures,
