@@ -130,6 +130,12 @@ struct board_centre_answer {
     size_t number;
     struct board_centre centre;
 };
+struct board_next_answer {
+    size_t number;
+    struct board_centre centre; // of the next shorter ending
+    size_t length;              // of the ending that was given
+    size_t period;              // its least period; length less period is the length of the next shorter one
+};
 struct board_split_answer {
     size_t number;
     size_t turns;
@@ -202,6 +208,7 @@ struct board_reply {
     size_t number;
     size_t first;
     size_t second;
+    size_t third;
 };
 
 // A script of one call, with all that it is lent.
@@ -210,7 +217,7 @@ static inline struct board_reply board_make(struct board *board, size_t call_num
     uint8_t call[BOARD_CALL_SIZE], no_byte = 0;
     uint16_t no_entry = 0;
     size_t answer[BOARD_ANSWER_SIZE] = {1, BOARD_NOT_MADE, 0, 0};
-    struct board_reply reply = {0, 0, 0};
+    struct board_reply reply = {0, 0, 0, 0};
     size_t entries = lent.list ? lent.entries : 0, bytes = lent.output ? lent.bytes : 0;
     board_write_call(call, call_number, b, x, entries ? entries : bytes);
     drive(board->letters, board->centres, board->places, board->numbers, call, sizeof call, &no_byte, 0,
@@ -221,6 +228,7 @@ static inline struct board_reply board_make(struct board *board, size_t call_num
     } else {
         reply.first = answer[1];
         reply.second = answer[2];
+        reply.third = answer[3];
     }
     return reply;
 }
@@ -279,10 +287,11 @@ static inline struct board_centre_answer board_longest(struct board *board) {
     return answer;
 }
 
-// The centre of the next shorter ending after the one at a centre.
-static inline struct board_centre_answer board_next(struct board *board, struct board_centre centre) {
+// The centre of the next shorter ending after the one at a centre, and of that one, which was given, the length and the
+// least period.
+static inline struct board_next_answer board_next(struct board *board, struct board_centre centre) {
     struct board_reply reply = board_make(board, BOARD_NEXT_CALL, 0, centre.half_picks, board_nothing());
-    struct board_centre_answer answer = {reply.number, {reply.first}};
+    struct board_next_answer answer = {reply.number, {reply.first}, reply.second, reply.third};
     return answer;
 }
 

@@ -147,7 +147,8 @@ impl Session {
 
     fn next(&mut self, centre: usize) -> String {
         let next = self.board.next(Centre(centre));
-        answer(next.map(|centre| vec![centre.0]), &Lent::Nothing, self.all)
+        let reply = next.map(|next| vec![next.centre.0, next.length, next.period]);
+        answer(reply, &Lent::Nothing, self.all)
     }
 
     fn split(&mut self, i: usize, k: usize, entries: usize) -> String {

@@ -27,6 +27,18 @@ pub struct Taken {
     pub visits: usize,
 }
 
+/// What is given for the next shorter ending.
+#[derive(Clone, Copy, Debug, PartialEq, Eq)]
+pub struct NextEnding {
+    /// The centre of the next shorter ending.
+    pub centre: Centre,
+    /// The length of the ending that was given.
+    pub length: usize,
+    /// The least period of the ending that was given: how far it is to its repeat. The length less
+    /// the period is the length of the next shorter ending.
+    pub period: usize,
+}
+
 impl Default for Board {
     fn default() -> Board {
         Board::new()
@@ -136,25 +148,33 @@ impl Board {
         Ok(Centre(centre))
     }
 
-    /// The centre of the next shorter ending after the one at a centre. Refused with 7, 4 or 10.
+    /// The centre of the next shorter ending after the one at a centre, and of that one, which was
+    /// given, the length and the least period. Refused with 7, 4 or 10.
     ///
     /// ```
-    /// # use board::{Board, Centre, VISITS};
+    /// # use board::{Board, Centre, NextEnding, VISITS};
     /// # let mut board = Board::new();
     /// # board.start(8)?;
     /// # for &pick in b"ABA" {
     /// #     board.feed(pick, &mut [0; VISITS])?;
     /// # }
-    /// // The draft is ABA: itself, its last pick and the empty ending.
+    /// // The draft is ABA: itself, which has period 2, its last pick and the empty ending.
     /// assert_eq!(board.longest(), Ok(Centre(4)));
-    /// assert_eq!(board.next(Centre(4)), Ok(Centre(6)));
-    /// assert_eq!(board.next(Centre(6)), Ok(Centre(7)));
+    /// let next = board.next(Centre(4))?;
+    /// assert_eq!(next, NextEnding { centre: Centre(6), length: 3, period: 2 });
+    /// let next = board.next(Centre(6))?;
+    /// assert_eq!(next, NextEnding { centre: Centre(7), length: 1, period: 1 });
     /// assert_eq!(board.next(Centre(7)).unwrap_err().number(), 10);
+    /// assert_eq!(board.next(Centre(8)).unwrap_err().number(), 4);
     /// # Ok::<(), board::Refusal>(())
     /// ```
-    pub fn next(&mut self, centre: Centre) -> Result<Centre, Refusal> {
-        let [centre, ..] = self.ask(NEXT_SHORTER, 0, centre.0)?;
-        Ok(Centre(centre))
+    pub fn next(&mut self, centre: Centre) -> Result<NextEnding, Refusal> {
+        let [centre, length, period] = self.ask(NEXT_SHORTER, 0, centre.0)?;
+        Ok(NextEnding {
+            centre: Centre(centre),
+            length,
+            period,
+        })
     }
 
     /// Split a prefix into k sections: the number of the last pick of each, rising, fills the first

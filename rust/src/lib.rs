@@ -31,7 +31,7 @@ mod script;
 mod state;
 mod stateless;
 
-pub use calls::{Board, Taken};
+pub use calls::{Board, NextEnding, Taken};
 pub use reader::{section, unfold, Reader, Section, Turn};
 pub use refusal::{Refusal, Sentence, SENTENCES};
 pub use script::{ANSWER_NUMBERS, CALL_BYTES};

@@ -31,7 +31,8 @@ int main(void) {
     struct board_feed_answer fed = board_feed(&board, 'A', list, BOARD_VISITS);
     struct board_mask_answer mask = board_mask(&board, board_prefix(0));
     struct board_radius_answer radius = board_radius(&board, board_centre_at(1));
-    struct board_centre_answer longest = board_longest(&board), next = board_next(&board, board_centre_at(1));
+    struct board_centre_answer longest = board_longest(&board);
+    struct board_next_answer next = board_next(&board, board_centre_at(1));
     struct board_split_answer split = board_split(&board, board_prefix(1), 1, list, BOARD_VISITS);
     struct board_record_answer record = board_record(&board, board_prefix(1), 1, output, BOARD_RECORD);
     const uint8_t folded[] = {'1', ',', '1', ',', '1', ',', 'A', '\n'};
@@ -42,7 +43,7 @@ int main(void) {
     printf("mask %zu %d\n", mask.number, mask.mask);
     printf("radius %zu %zu\n", radius.number, radius.radius);
     printf("longest %zu %zu\n", longest.number, longest.centre.half_picks);
-    printf("next %zu %zu\n", next.number, next.centre.half_picks);
+    printf("next %zu %zu %zu %zu\n", next.number, next.centre.half_picks, next.length, next.period);
     printf("split %zu %zu\n", split.number, split.turns);
     printf("record %zu %zu\n", record.number, record.bytes);
     printf("unfold %zu %zu %zu\n", unfolded.number, unfolded.place, unfolded.picks);

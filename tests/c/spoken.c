@@ -145,8 +145,10 @@ static void longest(void) {
 }
 
 static void next(void) {
-    struct board_centre_answer answer = board_next(&board, board_centre_at(number()));
-    print_value(answer.number, answer.centre.half_picks);
+    struct board_next_answer answer = board_next(&board, board_centre_at(number()));
+    print_number(answer.number, answer.centre.half_picks || answer.length || answer.period);
+    if (!answer.number)
+        printf(" %zu %zu %zu", answer.centre.half_picks, answer.length, answer.period);
 }
 
 static void split(void) {

@@ -14,7 +14,7 @@ mod showing;
 mod splitting;
 mod state;
 
-pub use asking::{longest_centre, mask_of_prefix, next_centre, radius_at};
+pub use asking::{longest_centre, mask_of_prefix, next_ending, radius_at, NextEnding};
 pub use feeding::{feed, start, Taken};
 pub use lifting::lift;
 pub use reading::{section_at, unfold, Section};

@@ -43,7 +43,7 @@ fn lines(call: Call, n: usize, most_sections: usize) -> Lines {
             (usize::from(prefix) > n, 4),
         ],
         Call::Mask { prefix } => vec![(usize::from(prefix) > n, 4)],
-        Call::Radius { centre } | Call::NextCentre { centre } => {
+        Call::Radius { centre } | Call::NextEnding { centre } => {
             vec![(centre_is_outside(centre, n), 4)]
         }
         Call::Start { .. } | Call::LongestCentre => Vec::new(),
@@ -73,7 +73,7 @@ pub fn found(call: Call) -> &'static [Refusal] {
     match call {
         Call::Split { .. } => &[9],
         Call::Record { .. } => &[9, 5],
-        Call::NextCentre { .. } => &[10],
+        Call::NextEnding { .. } => &[10],
         _ => &[],
     }
 }

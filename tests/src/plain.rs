@@ -15,7 +15,7 @@ mod splits;
 mod stretch;
 mod unfolding;
 
-pub use centres::{longest_centre, next_centre, radius_at};
+pub use centres::{longest_centre, next_ending, radius_at, NextEnding};
 pub use endings::{
     endings, is_ending, is_leading, longest_ending, next_leading_by_formula, next_shorter,
     next_shorter_leading, visits,

@@ -16,7 +16,7 @@ pub enum Call {
     LongestCentre,
     Mask { prefix: u16 },
     Radius { centre: u16 },
-    NextCentre { centre: u16 },
+    NextEnding { centre: u16 },
     Record { prefix: u16, k: u8, bytes: u16 },
 }
 
@@ -45,7 +45,7 @@ impl Call {
             Call::LongestCentre => (3, 0, 0, 0),
             Call::Mask { prefix } => (4, 0, prefix, 0),
             Call::Radius { centre } => (5, 0, centre, 0),
-            Call::NextCentre { centre } => (6, 0, centre, 0),
+            Call::NextEnding { centre } => (6, 0, centre, 0),
             Call::Record { prefix, k, bytes } => (7, k, prefix, bytes),
         };
         let ([at_low, at_high], [lent_low, lent_high]) = (at.to_le_bytes(), lent.to_le_bytes());
@@ -89,7 +89,9 @@ impl Call {
                 one_value(calls::mask_of_prefix(state, prefix.into()).map(usize::from))
             }
             Call::Radius { centre } => one_value(calls::radius_at(state, centre.into())),
-            Call::NextCentre { centre } => one_value(calls::next_centre(state, centre.into())),
+            Call::NextEnding { centre } => {
+                calls::next_ending(state, centre.into()).and_then(|ending| given(ending.values()))
+            }
             Call::Record { prefix, k, .. } => {
                 one_value(calls::folded_record(state, prefix.into(), k.into(), output))
             }

@@ -111,7 +111,7 @@ impl Console {
                     self.longest = None;
                     self.known.feed(false);
                 }
-                Expected::Possible { asked, all }
+                Expected::Possible { asked, n, all }
             }
         }
     }

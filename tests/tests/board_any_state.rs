@@ -11,7 +11,7 @@ mod ends;
 mod some_calls;
 
 use any_states::{any_number, any_state, spoiled_state, with_any_numbers};
-use bounded::make_within_bounds;
+use bounded::{is_told, make_within_bounds};
 use comparison::library::Board;
 use comparison::samples::Generator;
 use comparison::scripted::Call;
@@ -57,7 +57,7 @@ fn ask_anywhere(board: &mut Board, generator: &mut Generator, step: Step) {
         let centre = any_number(generator) as u16;
         let calls = [
             Call::Radius { centre },
-            Call::NextCentre { centre },
+            Call::NextEnding { centre },
             Call::Mask { prefix: centre },
             Call::LongestCentre,
         ];
@@ -69,6 +69,42 @@ fn ask_anywhere(board: &mut Board, generator: &mut Generator, step: Step) {
         let centre = board.longest().clamp(1, 2 * board.n() + 1);
         assert_eq!(board.longest_centre(), Ok(centre), "longest, {step}");
     }
+}
+
+/// Asks what is told of the ending at every centre, and gives of how many something is.
+/// The three values fit together, or the call is refused with 10.
+fn ask_every_ending(board: &mut Board, step: Step) -> usize {
+    let n = board.n();
+    let centres = 1..=2 * n as u16 + 1;
+    let calls: Vec<Call> = centres.map(|centre| Call::NextEnding { centre }).collect();
+    let mut told = 0;
+    for (at, reply) in board.ask(&calls).into_iter().enumerate() {
+        let centre = at + 1;
+        let case = || format!("{reply:?}, centre {centre}, n {n}, {step}");
+        match reply {
+            Ok(values) => assert!(is_told(values, centre, n), "{}", case()),
+            Err(number) => assert_eq!(number, 10, "{}", case()),
+        }
+        told += usize::from(reply.is_ok());
+    }
+    told
+}
+
+/// Many endings must be told of, on any bytes and on spoiled drafts.
+#[test]
+fn every_ending_on_any_bytes() {
+    each_step_ends(|steps| {
+        let mut told = [0, 0];
+        for seed in 40_000..42_000 {
+            let step = Step { seed, number: 0 };
+            steps.send(step).expect("the test waits");
+            let mut any = any_state(&mut Generator(seed));
+            told[0] += ask_every_ending(&mut any, step);
+            let mut spoiled = spoiled_state(&mut Generator(seed));
+            told[1] += ask_every_ending(&mut spoiled, step);
+        }
+        assert!(told.iter().all(|&count| count > 40_000), "{told:?}");
+    });
 }
 
 #[test]

@@ -106,14 +106,46 @@ fn aabacabaa_by_centre() {
     assert_eq!(run.make(Call::LongestCentre), given([10]));
     for centre in 1..=19 {
         let expected = match centre {
-            10 => given([17]),
-            17 => given([18]),
-            18 => given([19]),
+            10 => given([17, 9, 7]),
+            17 => given([18, 2, 1]),
+            18 => given([19, 1, 1]),
             _ => Err(10),
         };
-        let reply = run.make(Call::NextCentre { centre });
+        let reply = run.make(Call::NextEnding { centre });
         assert_eq!(reply, expected, "centre {centre}");
     }
+}
+
+/// Every ending of the whole draft, from the longest on: its centre, and what the call
+/// gives. Every other centre belongs to none, and gives 10.
+fn assert_endings(draft: &str, endings: &[(u16, [usize; 3])]) {
+    let mut run = Beside::fed(draft.as_bytes(), MOST_SECTIONS);
+    for centre in 1..=2 * draft.len() as u16 + 1 {
+        let told = endings.iter().find(|(at, _)| *at == centre);
+        let expected = told.map_or(Err(10), |(_, values)| given(*values));
+        let reply = run.make(Call::NextEnding { centre });
+        assert_eq!(reply, expected, "{draft}, centre {centre}");
+    }
+}
+
+/// Written out by hand: the next shorter ending's centre, the length, the least period.
+#[test]
+fn endings_with_length_and_period() {
+    assert_endings("", &[]);
+    assert_endings("A", &[(2, [3, 1, 1])]);
+    assert_endings("AB", &[(4, [5, 1, 1])]);
+    assert_endings("AA", &[(3, [4, 2, 1]), (4, [5, 1, 1])]);
+    assert_endings("AAA", &[(4, [5, 3, 1]), (5, [6, 2, 1]), (6, [7, 1, 1])]);
+    assert_endings("ABA", &[(4, [6, 3, 2]), (6, [7, 1, 1])]);
+    assert_endings("ABBA", &[(5, [8, 4, 3]), (8, [9, 1, 1])]);
+    assert_endings("ABACDDC", &[(11, [14, 4, 3]), (14, [15, 1, 1])]);
+    let abababa = [
+        (8, [10, 7, 2]),
+        (10, [12, 5, 2]),
+        (12, [14, 3, 2]),
+        (14, [15, 1, 1]),
+    ];
+    assert_endings("ABABABA", &abababa);
 }
 
 /// "The record of ABACDDC in 2 is `7,2,3,AB,4,CD` and byte 10, 14 bytes; 13 bytes of

@@ -27,7 +27,8 @@ fn compare_radii(board: &Board, fast: &Fast, name: &str) {
 fn compare_links(board: &Board, fast: &Fast, name: &str) {
     let n = board.n();
     let mut centre = fast.longest_centre(n);
-    while let Some(next) = fast.next_centre(n, centre) {
+    while let Some(ending) = fast.next_ending(n, centre) {
+        let next = ending.centre;
         let forward = usize::from(board.centre_lane(NEXT)[centre]);
         assert_eq!(forward, next, "{name}, next of {centre}");
         let back = usize::from(board.centre_lane(PREV)[next]);

@@ -60,7 +60,7 @@ fn good_calls(n: usize) -> [Call; 8] {
         Call::LongestCentre,
         Call::Mask { prefix },
         Call::Radius { centre: 1 },
-        Call::NextCentre { centre: 1 },
+        Call::NextEnding { centre: 1 },
         Call::Record {
             prefix,
             k: 1,
@@ -87,6 +87,19 @@ fn both_sides_of_each_limit() {
                 assert_eq!(refused, !good && !is_start, "{case}");
             }
         }
+    }
+}
+
+/// The ending ABBA has centre 5, and 6 to 9 are the centres behind it: with every stored
+/// link, one of them or not, the next ending is given, and its three values fit together.
+#[test]
+fn every_stored_link() {
+    let mut board = Board::fed(b"ABBA", 8);
+    for link in 0..=u16::MAX {
+        board.centre_lane_mut(NEXT)[5] = link;
+        let call = Call::NextEnding { centre: 5 };
+        let number = make_within_bounds(&mut board, call, format!("link {link}"));
+        assert_eq!(number, None, "link {link}");
     }
 }
 
@@ -126,7 +139,7 @@ fn bad_calls() -> [Call; 8] {
         },
         Call::Mask { prefix: u16::MAX },
         Call::Radius { centre: 0 },
-        Call::NextCentre { centre: 0 },
+        Call::NextEnding { centre: 0 },
         Call::Record {
             prefix: 0,
             k: 0,

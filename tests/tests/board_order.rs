@@ -122,7 +122,7 @@ fn next_shorter_ending() {
                 (false, true) => 3,
                 (false, false) => 4,
             };
-            (stored(b"AB", meets(7)), Call::NextCentre { centre })
+            (stored(b"AB", meets(7)), Call::NextEnding { centre })
         });
     }
 }

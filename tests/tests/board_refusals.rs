@@ -2,6 +2,7 @@
 //! documents name; each call is compared with the book too, and keeps its bytes.
 
 use comparison::beside::Beside;
+use comparison::calls::NextEnding;
 use comparison::library::Board;
 use comparison::samples::Generator;
 use comparison::scripted::{given, Call};
@@ -110,12 +111,12 @@ fn number_4_by_centre() {
         for centre in [0, last + 1, u16::MAX] {
             let case = format!("centre {centre} of {} picks", draft.len());
             assert_eq!(run.make(Call::Radius { centre }), Err(4), "{case}");
-            assert_eq!(run.make(Call::NextCentre { centre }), Err(4), "{case}");
+            assert_eq!(run.make(Call::NextEnding { centre }), Err(4), "{case}");
         }
         for centre in [1, last] {
             let case = format!("centre {centre} of {} picks", draft.len());
             assert_eq!(run.make(Call::Radius { centre }), given([0]), "{case}");
-            assert_eq!(run.make(Call::NextCentre { centre }), Err(10), "{case}");
+            assert_eq!(run.make(Call::NextEnding { centre }), Err(10), "{case}");
         }
     }
 }
@@ -164,15 +165,16 @@ fn number_9() {
 }
 
 /// 10: on the empty draft, whose one ending is empty; and after each pick at 2n, the
-/// one-pick ending, which leads to the empty one at 2n+1.
+/// one-pick ending, which leads to the empty one at 2n+1 and has length 1 and period 1.
 #[test]
 fn number_10() {
     let mut board = Board::started(MOST_SECTIONS);
-    assert_eq!(board.next_centre(1), Err(10));
+    assert_eq!(board.next_ending(1), Err(10));
     for (at, &pick) in Generator(10).draft(2, 300).iter().enumerate() {
         board.feed(pick, &mut [0; 19]).expect("a letter");
         let n = at + 1;
-        assert_eq!(board.next_centre(2 * n), Ok(2 * n + 1), "{n} picks");
-        assert_eq!(board.next_centre(2 * n + 1), Err(10), "{n} picks");
+        let next = board.next_ending(2 * n).map(NextEnding::values);
+        assert_eq!(next, Ok([2 * n + 1, 1, 1]), "{n} picks");
+        assert_eq!(board.next_ending(2 * n + 1), Err(10), "{n} picks");
     }
 }

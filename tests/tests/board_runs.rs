@@ -4,6 +4,8 @@
 
 #[path = "support/some_calls.rs"]
 mod some_calls;
+#[path = "support/visited.rs"]
+mod visited;
 
 use comparison::beside::Beside;
 use comparison::library::Board;
@@ -12,6 +14,7 @@ use comparison::scripted::{Call, Reply};
 use comparison::structured::{broken_cubes, broken_periods};
 use comparison::{MOST_PICKS, MOST_SECTIONS};
 use some_calls::some_call;
+use visited::assert_visits_lead_on;
 
 /// A run that opens with a start on some bytes.
 fn some_run(generator: &mut Generator) -> Beside {
@@ -22,10 +25,20 @@ fn some_run(generator: &mut Generator) -> Beside {
     Beside::started_on(board, 1 + generator.below(MOST_SECTIONS) as u8)
 }
 
+/// Makes a call. After an accepted feed its visits lead on by what the board tells.
+fn make(run: &mut Beside, call: Call) -> Reply {
+    let (reply, list, _) = run.make_lent(call);
+    if let (Call::Feed { .. }, Ok([_, count, _])) = (call, reply) {
+        let draft = String::from_utf8_lossy(&run.book.row);
+        assert_visits_lead_on(&mut run.board, &list[..count], &draft);
+    }
+    reply
+}
+
 /// Makes some calls. Gives how many were accepted and how many refused.
 fn make_some(run: &mut Beside, generator: &mut Generator, calls: usize) -> [usize; 2] {
     let replies: Vec<Reply> = (0..calls)
-        .map(|_| run.make(some_call(generator, run.book.row.len())))
+        .map(|_| make(run, some_call(generator, run.book.row.len())))
         .collect();
     let accepted = replies.iter().filter(|reply| reply.is_ok()).count();
     [accepted, calls - accepted]
@@ -69,12 +82,12 @@ fn runs_at_a_full_draft() {
         for _ in 0..120 {
             let call = some_call(generator, run.book.row.len());
             if !matches!(call, Call::Start { .. }) {
-                run.make(call).ok();
+                make(run, call).ok();
             }
         }
         let entries = 19;
         while run.book.row.len() < MOST_PICKS {
-            let fed = run.make(Call::Feed { pick: 90, entries });
+            let fed = make(run, Call::Feed { pick: 90, entries });
             assert!(fed.is_ok(), "{fed:?}, {} picks", run.book.row.len());
         }
         assert_eq!(run.make(Call::Feed { pick: 90, entries }), Err(8));

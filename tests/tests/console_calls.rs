@@ -7,14 +7,18 @@ mod console;
 mod console_session;
 #[path = "support/far_places.rs"]
 mod far_places;
+#[path = "support/next_lines.rs"]
+mod next_lines;
 #[path = "support/refusals.rs"]
 mod refusals;
 
 use comparison::samples::repeated;
+use comparison::spoken::text_of;
 use comparison::MOST_PICKS;
 use console::compare;
 use console_session::compare_session;
 use far_places::assert_far_are_not_cut;
+use next_lines::assert_every_centre;
 use refusals::refusals;
 
 /// "Drafts at the edges", K = 8, with document 01's numbers.
@@ -40,6 +44,21 @@ fn the_order_of_numbers() {
         include_str!("support/sessions/order_of_split_and_record.txt"),
     );
     compare_session(false, include_str!("support/sessions/order_of_others.txt"));
+}
+
+/// The next shorter ending's centre, and the length and the least period of the ending
+/// given: a single pick, a run of one letter, endings of more than two periods, of exactly
+/// two and of fewer; 7, 4 and 10 beside them.
+#[test]
+fn next_endings() {
+    compare_session(false, include_str!("support/sessions/next_endings.txt"));
+}
+
+/// The same at every centre of many drafts.
+#[test]
+fn next_endings_at_every_centre() {
+    let feeds = |draft: &[u8]| format!("picks {}\n", text_of(draft));
+    assert_every_centre(feeds, |input| compare(false, input));
 }
 
 /// Pick 2,048 is taken. Behind it each number of a feed in its order.

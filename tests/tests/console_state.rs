@@ -167,6 +167,21 @@ fn the_numbers() {
     compare_session(true, include_str!("support/sessions/numbers.txt"));
 }
 
+/// Whatever is stored as the next centre of an ending: "length less period is always the
+/// length at the centre it gives".
+#[test]
+fn any_stored_next_centre() {
+    let mut input = String::from("start 8\npicks AABACABAA\n");
+    for centre in [10, 17, 18] {
+        for stored in [0, centre - 1, centre, centre + 1, 18, 19, 20, 4_097, 65_535] {
+            input += &format!("poke next {centre} {stored}\nnext {centre}\n");
+        }
+    }
+    let answers = compare(false, input);
+    let refused = answers.iter().find(|answer| !answer.starts_with("ok"));
+    assert_eq!(refused, None, "endings of AABACABAA");
+}
+
 /// A number of the state: small, near the arrays' lengths, or of any size.
 fn some_size(generator: &mut Generator) -> usize {
     let bounds = [10, 2 * MOST_PICKS + 4, 1 << 16, usize::MAX];

@@ -26,6 +26,27 @@ fn next_shorter_leading_ending_by_definition_and_by_formula() {
     }
 }
 
+/// "Length less period is always the length at the centre it gives", of every ending but
+/// the empty one.
+#[test]
+fn length_less_period_is_the_next_endings_length() {
+    for draft in small_drafts() {
+        let text = String::from_utf8_lossy(&draft);
+        let last = 2 * draft.len() + 1;
+        let fast = Fast::new(&draft, MOST_SECTIONS);
+        for length in plain::endings(&draft).into_iter().filter(|&len| len > 0) {
+            let by_plain = plain::next_ending(&draft, last - length);
+            let by_fast = fast.next_ending(draft.len(), last - length);
+            for next in [by_plain, by_fast] {
+                let next = next.expect("an ending that is not empty");
+                assert_eq!(next.length, length, "{text} {length}");
+                let shorter = last - next.centre;
+                assert_eq!(length - next.period, shorter, "{text} {length}");
+            }
+        }
+    }
+}
+
 /// "A new pick's row word is the union of the visited places' gathered words, each
 /// moved up one bit, bits above K dropped."
 #[test]

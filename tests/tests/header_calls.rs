@@ -10,6 +10,8 @@ mod c_program;
 mod call_lines;
 #[path = "support/far_places.rs"]
 mod far_places;
+#[path = "support/next_lines.rs"]
+mod next_lines;
 #[path = "support/process.rs"]
 mod process;
 #[path = "support/transcript.rs"]
@@ -24,6 +26,7 @@ use comparison::samples::Generator;
 use comparison::spoken::text_of;
 use comparison::MOST_PICKS;
 use far_places::assert_far_are_not_cut;
+use next_lines::assert_every_centre;
 use process::Process;
 use std::io::Write;
 use std::path::{Path, PathBuf};
@@ -116,6 +119,13 @@ fn arguments_beyond_the_fields() {
     assert_eq!(refused, None, "calls that are lent very much");
 }
 
+/// The next shorter ending, and the length and the least period of the one given, at every
+/// centre of many drafts.
+#[test]
+fn next_endings_at_every_centre() {
+    assert_every_centre(feeds, |input| compare(&IN_C, input));
+}
+
 /// Drafts of 2,048 picks and one more, with calls behind them.
 #[test]
 fn full_drafts() {
@@ -151,7 +161,7 @@ fn a_library_without_the_calls() {
         "mask 255 0",
         "radius 255 0",
         "longest 255 0",
-        "next 255 0",
+        "next 255 0 0 0",
         "split 255 0",
         "record 255 0",
         "unfold 255 0 0",

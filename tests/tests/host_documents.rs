@@ -82,6 +82,42 @@ fn every_call_is_explained() {
     }
 }
 
+/// Calls as docs/HOSTS.md writes them, and a line of each that is accepted behind those above.
+const ACCEPTED: [(&str, &str); 13] = [
+    ("start K", "start 8"),
+    ("feed PICK [ENTRIES]", "feed A"),
+    ("mask I", "mask 1"),
+    ("radius C", "radius 2"),
+    ("longest", "longest"),
+    ("next C", "next 2"),
+    ("split I K [ENTRIES]", "split 1 1"),
+    ("record I K [BYTES]", "record 1 1"),
+    ("lift LETTER", "lift A"),
+    ("unfold TEXT [BYTES]", r"unfold 1,1,1,A\n"),
+    ("section TEXT AT", r"section 1,1,1,A\n 0"),
+    ("numbers", "numbers"),
+    ("peek ARRAY INDEX", "peek rows 0"),
+];
+
+/// Each call's row in docs/HOSTS.md has as many values as the console prints.
+#[test]
+fn the_rows_have_the_values_that_are_printed() {
+    let header = "| Line | The answer, where it is accepted |";
+    let table = rows(&file("docs/HOSTS.md"), header);
+    let answers = compare(false, ACCEPTED.map(|(_, line)| line).join("\n"));
+    for ((call, _), answer) in ACCEPTED.iter().zip(answers) {
+        let is_its = |row: &&Vec<String>| row[0] == format!("`{call}`");
+        let row = table.iter().find(is_its).expect(call);
+        let said = quoted(&row[1]).next().expect("an answer in backticks");
+        let printed = answer.split(" |").next().expect("values");
+        let [said_words, words] = [said, printed].map(|text| text.split(' ').count());
+        assert_eq!(
+            said_words, words,
+            "{call}: {said}, and {printed} is printed"
+        );
+    }
+}
+
 /// The texts in backticks.
 fn quoted(cell: &str) -> impl Iterator<Item = &str> {
     cell.split('`').skip(1).step_by(2)

@@ -1,5 +1,6 @@
 //! Structured and random drafts of 2,048 picks on the fast path, checked by slices.
 
+use comparison::calls::NextEnding;
 use comparison::fast::Fast;
 use comparison::samples::{fibonacci, repeated, Generator};
 use comparison::{plain, MOST_PICKS, MOST_SECTIONS, VISIT_ROOM};
@@ -127,7 +128,7 @@ fn radii_by_slices() {
 }
 
 /// From the longest ending on, each next ending is the next shorter one by slices,
-/// down to the empty one; every other centre has none.
+/// down to the empty one, with length and least period; every other centre has none.
 #[test]
 fn next_endings_by_slices() {
     for (name, draft) in long_drafts() {
@@ -135,16 +136,19 @@ fn next_endings_by_slices() {
         let mut shorter = None;
         for length in 0..=MOST_PICKS {
             let centre = 2 * MOST_PICKS + 1 - length;
-            let next = fast.next_centre(MOST_PICKS, centre);
+            let next = fast.next_ending(MOST_PICKS, centre);
             if plain::is_ending(&draft, length) {
-                assert_eq!(next, shorter, "{name}, ending of {length}");
+                let period = plain::least_period(&draft[MOST_PICKS - length..]);
+                let expected = shorter.map(|shorter| [shorter, length, period]);
+                let next = next.map(NextEnding::values);
+                assert_eq!(next, expected, "{name}, ending of {length}");
                 shorter = Some(centre);
             } else {
                 assert_eq!(next, None, "{name}, length {length}");
             }
         }
         for centre in 1..=MOST_PICKS {
-            let next = fast.next_centre(MOST_PICKS, centre);
+            let next = fast.next_ending(MOST_PICKS, centre);
             assert_eq!(next, None, "{name}, centre {centre}");
         }
     }

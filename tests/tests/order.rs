@@ -47,11 +47,11 @@ fn mask_and_radius() {
 fn next_shorter_ending() {
     let beyond = 2 * MOST_PICKS + 2;
     for centre in [0, beyond] {
-        assert_eq!(calls::next_centre(&full(0), centre), Err(7));
-        assert_eq!(calls::next_centre(&full(8), centre), Err(4));
+        assert_eq!(calls::next_ending(&full(0), centre), Err(7));
+        assert_eq!(calls::next_ending(&full(8), centre), Err(4));
     }
-    assert_eq!(calls::next_centre(&full(0), 1), Err(7));
-    assert_eq!(calls::next_centre(&full(8), 1), Err(10));
+    assert_eq!(calls::next_ending(&full(0), 1), Err(7));
+    assert_eq!(calls::next_ending(&full(8), 1), Err(10));
 }
 
 /// Split: 7, then 1, then 13, then 4, then 9.

@@ -5,15 +5,16 @@
 mod both;
 
 use both::both;
+use comparison::calls::NextEnding;
 use comparison::fast::Fast;
 use comparison::{plain, MOST_SECTIONS};
 
 /// Centres of all endings of the whole draft, by going to the next shorter ending
 /// from the longest one on.
-fn ending_centres(longest: usize, next: impl Fn(usize) -> Option<usize>) -> Vec<usize> {
+fn ending_centres(longest: usize, next: impl Fn(usize) -> Option<NextEnding>) -> Vec<usize> {
     let mut centres = vec![longest];
-    while let Some(centre) = next(centres[centres.len() - 1]) {
-        centres.push(centre);
+    while let Some(ending) = next(centres[centres.len() - 1]) {
+        centres.push(ending.centre);
     }
     centres
 }
@@ -24,10 +25,10 @@ fn assert_ending_centres(draft: &str, expected: &[usize]) {
         expected.to_vec(),
         |letters| {
             ending_centres(plain::longest_centre(letters), |at| {
-                plain::next_centre(letters, at)
+                plain::next_ending(letters, at)
             })
         },
-        |fast, n| ending_centres(fast.longest_centre(n), |at| fast.next_centre(n, at)),
+        |fast, n| ending_centres(fast.longest_centre(n), |at| fast.next_ending(n, at)),
     );
 }
 
@@ -66,14 +67,19 @@ fn example_3_longest_ending_radii_and_next_endings() {
         |fast, n| (1..=19).map(|at| fast.radius(n, at)).collect(),
     );
     let mut next = vec![None; 19];
-    next[10 - 1] = Some(17);
-    next[17 - 1] = Some(18);
-    next[18 - 1] = Some(19);
+    next[10 - 1] = Some([17, 9, 7]);
+    next[17 - 1] = Some([18, 2, 1]);
+    next[18 - 1] = Some([19, 1, 1]);
+    let values = |next: Option<NextEnding>| next.map(NextEnding::values);
     both(
         draft,
         next,
-        |letters| (1..=19).map(|at| plain::next_centre(letters, at)).collect(),
-        |fast, n| (1..=19).map(|at| fast.next_centre(n, at)).collect(),
+        |letters| {
+            (1..=19)
+                .map(|at| values(plain::next_ending(letters, at)))
+                .collect()
+        },
+        |fast, n| (1..=19).map(|at| values(fast.next_ending(n, at))).collect(),
     );
 }
 

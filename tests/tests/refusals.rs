@@ -3,7 +3,7 @@
 #[path = "support/fed.rs"]
 mod fed;
 
-use comparison::calls::{self, State};
+use comparison::calls::{self, NextEnding, State};
 use comparison::{MOST_PICKS, MOST_SECTIONS, VISIT_ROOM};
 use fed::fed;
 
@@ -24,7 +24,7 @@ fn numbers_of_all_calls(state: &State) -> [Option<u8>; 7] {
         calls::mask_of_prefix(state, 1).err(),
         calls::radius_at(state, 1).err(),
         calls::longest_centre(state).err(),
-        calls::next_centre(state, 2 * state.n).err(),
+        calls::next_ending(state, 2 * state.n).err(),
         calls::split(state, 1, 1, &mut [0; 1]).err(),
         calls::folded_record(state, 1, 1, &mut [0; 8]).err(),
     ]
@@ -113,14 +113,14 @@ fn number_4_by_centre() {
         for centre in [0, 2 * n + 2, usize::MAX] {
             assert_eq!(calls::radius_at(&state, centre), Err(4), "{draft} {centre}");
             assert_eq!(
-                calls::next_centre(&state, centre),
+                calls::next_ending(&state, centre),
                 Err(4),
                 "{draft} {centre}"
             );
         }
         for centre in [1, 2 * n + 1] {
             assert_eq!(calls::radius_at(&state, centre), Ok(0), "{draft} {centre}");
-            let number = calls::next_centre(&state, centre).err();
+            let number = calls::next_ending(&state, centre).err();
             assert_eq!(number, Some(10), "{draft} {centre}");
         }
     }
@@ -271,18 +271,20 @@ fn number_9() {
     }
 }
 
-/// Example 3 of document 004: the endings have centres 10, 17, 18 and, empty, 19.
+/// Example 3 of document 004: the endings have centres 10, 17, 18 and, empty, 19. They
+/// are the whole draft, which repeats after 7 picks, AA and A.
 #[test]
 fn number_10() {
     let state = fed(b"AABACABAA", MOST_SECTIONS);
     for centre in 1..=19 {
         let expected = match centre {
-            10 => Ok(17),
-            17 => Ok(18),
-            18 => Ok(19),
+            10 => Ok([17, 9, 7]),
+            17 => Ok([18, 2, 1]),
+            18 => Ok([19, 1, 1]),
             _ => Err(10),
         };
-        assert_eq!(calls::next_centre(&state, centre), expected, "{centre}");
+        let given = calls::next_ending(&state, centre).map(NextEnding::values);
+        assert_eq!(given, expected, "{centre}");
     }
-    assert_eq!(calls::next_centre(&fed(b"", 8), 1), Err(10));
+    assert_eq!(calls::next_ending(&fed(b"", 8), 1), Err(10));
 }

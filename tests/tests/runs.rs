@@ -155,10 +155,10 @@ fn reading_calls_leave_the_run_as_it_is() {
                 (1..=2 * state.n + 1).contains(&any),
                 "{book:?} {any}"
             );
-            let next = calls::next_centre(&state, any);
+            let next = calls::next_ending(&state, any);
             assert_eq!(
                 next.ok(),
-                plain::next_centre(&book.row, any),
+                plain::next_ending(&book.row, any),
                 "{book:?} {any}"
             );
             assert!(state == before);

@@ -26,7 +26,8 @@ fn compare_at(fast: &Fast, draft: &[u8], most_sections: usize) {
     }
 }
 
-/// Every radius, the longest ending and every next ending, by centre.
+/// Every radius, the longest ending, and every next ending with length and period, by
+/// centre.
 fn compare_centres(fast: &Fast, draft: &[u8]) {
     let text = String::from_utf8_lossy(draft);
     let n = draft.len();
@@ -35,8 +36,8 @@ fn compare_centres(fast: &Fast, draft: &[u8]) {
     for centre in 1..=2 * n + 1 {
         let radius = plain::radius_at(draft, centre);
         assert_eq!(fast.radius(n, centre), radius, "{text} at {centre}");
-        let next = plain::next_centre(draft, centre);
-        assert_eq!(fast.next_centre(n, centre), next, "{text} at {centre}");
+        let next = plain::next_ending(draft, centre);
+        assert_eq!(fast.next_ending(n, centre), next, "{text} at {centre}");
     }
 }
 

@@ -6,7 +6,7 @@ mod both;
 mod fed;
 
 use both::both;
-use comparison::calls;
+use comparison::calls::{self, NextEnding};
 use comparison::fast::Fast;
 use comparison::samples::{every_draft_to, repeated};
 use comparison::{plain, FIRST_PICK, LAST_PICK, MOST_PICKS, MOST_SECTIONS, VISIT_ROOM};
@@ -125,6 +125,41 @@ fn aabacabaa_by_centre() {
     }
 }
 
+/// Every ending of the whole draft, from the longest on: its centre, and what is told of
+/// it. Every other centre belongs to none.
+fn assert_endings(draft: &str, endings: &[(usize, [usize; 3])]) {
+    let state = fed(draft.as_bytes(), MOST_SECTIONS);
+    for centre in 1..=2 * draft.len() + 1 {
+        let told = endings.iter().find(|(at, _)| *at == centre);
+        let told = told.map(|(_, values)| *values);
+        both(
+            draft,
+            told,
+            |letters| plain::next_ending(letters, centre).map(NextEnding::values),
+            |fast, n| fast.next_ending(n, centre).map(NextEnding::values),
+        );
+        let given = calls::next_ending(&state, centre).map(NextEnding::values);
+        assert_eq!(given, told.ok_or(10), "{draft}, centre {centre}");
+    }
+}
+
+/// Written out by hand: the next shorter ending's centre, the length, the least period.
+#[test]
+fn endings_with_length_and_period() {
+    assert_endings("", &[]);
+    assert_endings("A", &[(2, [3, 1, 1])]);
+    assert_endings("AB", &[(4, [5, 1, 1])]);
+    assert_endings("AA", &[(3, [4, 2, 1]), (4, [5, 1, 1])]);
+    assert_endings("AAA", &[(4, [5, 3, 1]), (5, [6, 2, 1]), (6, [7, 1, 1])]);
+    assert_endings("ABA", &[(4, [6, 3, 2]), (6, [7, 1, 1])]);
+    assert_endings("ABBA", &[(5, [8, 4, 3]), (8, [9, 1, 1])]);
+    assert_endings("ABACDDC", &[(11, [14, 4, 3]), (14, [15, 1, 1])]);
+    let ababab = [(8, [10, 5, 2]), (10, [12, 3, 2]), (12, [13, 1, 1])];
+    assert_endings("ABABAB", &ababab);
+    let aabacabaa = [(10, [17, 9, 7]), (17, [18, 2, 1]), (18, [19, 1, 1])];
+    assert_endings("AABACABAA", &aabacabaa);
+}
+
 #[test]
 fn record_of_abacddc_in_2() {
     let expected = b"7,2,3,AB,4,CD\n";
@@ -189,9 +224,9 @@ fn centres_of_the_empty_and_of_the_longest_ending() {
         if n > 0 {
             both(
                 &text,
-                Some(2 * n + 1),
-                |letters| plain::next_centre(letters, 2 * n),
-                |fast, n| fast.next_centre(n, 2 * n),
+                Some([2 * n + 1, 1, 1]),
+                |letters| plain::next_ending(letters, 2 * n).map(NextEnding::values),
+                |fast, n| fast.next_ending(n, 2 * n).map(NextEnding::values),
             );
         }
     }

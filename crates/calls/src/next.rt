@@ -1,8 +1,8 @@
-// The centre of the next shorter ending after the one at a centre.
+// The centre of the next shorter ending after the one at a centre, and that one's length and least period.
 ghost use mathlib.Core.Path.{_≡_};
 ghost use mathlib.Core.List.{[]};
 ghost use Rattle.iterator.specs.Says.{shorterSays};
-ghost use Rattle.promises.specs.Answers.{reply, centreSays};
+ghost use Rattle.promises.specs.Answers.{reply, nextSays};
 ghost use Rattle.promises.specs.Book.{next};
 ghost use Rattle.promises.specs.Replies.{orNoEnding};
 ghost use Rattle.promises.specs.Lent.{ReadsOn};
@@ -11,26 +11,26 @@ use cells::Centre;
 use cells::Numbers;
 use iterator::reading::Shorter;
 use iterator::reading::next_shorter;
-use promises::CentreAnswer;
 use promises::NO_ENDING;
+use promises::NextAnswer;
 use refusals::centre_refusal;
 
 // The centre belongs to no ending, or to the empty one, where none is found.
-fn answer_of(found: Shorter) -> CentreAnswer
-    ensures { λ r. ⌜ centreSays r ≡ orNoEnding (shorterSays found) ⌝ }
+fn answer_of(found: Shorter) -> NextAnswer
+    ensures { λ r. ⌜ nextSays r ≡ orNoEnding (shorterSays found) ⌝ }
 {
     match found {
-        Shorter::At(c) => CentreAnswer::At(c),
-        Shorter::Missing => CentreAnswer::Refused(NO_ENDING),
+        Shorter::At(c, length, period) => NextAnswer::Shorter(c, length, period),
+        Shorter::Missing => NextAnswer::Refused(NO_ENDING),
     }
 }
 
-pub fn next(radius: &ByCentre, links: &ByCentre, held: Numbers, c: Centre) -> CentreAnswer
-    ensures { λ r. ⌜ ReadsOn held (λ d. (d .radius ≡ now (radius .entry)) × (d .next ≡ now (links .entry))) (next (c .0)) (reply (centreSays r) []) ⌝ }
+pub fn next(radius: &ByCentre, links: &ByCentre, held: Numbers, c: Centre) -> NextAnswer
+    ensures { λ r. ⌜ ReadsOn held (λ d. (d .radius ≡ now (radius .entry)) × (d .next ≡ now (links .entry))) (next (c .0)) (reply (nextSays r) []) ⌝ }
 {
     let number = centre_refusal(held, c);
     if 0 < number {
-        return CentreAnswer::Refused(number);
+        return NextAnswer::Refused(number);
     }
     answer_of(next_shorter(radius, links, held.n, held.longest, c))
 }

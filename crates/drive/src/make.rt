@@ -17,6 +17,7 @@ use crate::told::Told;
 use crate::told::centre_told;
 use crate::told::feed_told;
 use crate::told::mask_told;
+use crate::told::next_told;
 use crate::told::radius_told;
 use crate::told::record_told;
 use crate::told::split_told;
@@ -106,7 +107,7 @@ fn ask(
         3 => centre_told(calls::longest::longest(held)),
         4 => mask_told(calls::mask::mask(&places[ROWS], held, Place(q.x))),
         5 => radius_told(calls::radius::radius(&centres[RADIUS], held, Centre(q.x))),
-        6 => centre_told(calls::next::next(&centres[RADIUS], &centres[NEXT], held, Centre(q.x))),
+        6 => next_told(calls::next::next(&centres[RADIUS], &centres[NEXT], held, Centre(q.x))),
         _ => record_told(calls::fold::fold(
             letters,
             &places[ROWS],

@@ -1,6 +1,6 @@
 // An answer in four numbers.
 ghost use mathlib.Core.Path.{_≡_};
-ghost use Rattle.promises.specs.Answers.{startSays, feedSays, maskSays, radiusSays, centreSays, splitSays, recordSays, liftSays, unfoldSays};
+ghost use Rattle.promises.specs.Answers.{startSays, feedSays, maskSays, radiusSays, centreSays, nextSays, splitSays, recordSays, liftSays, unfoldSays};
 ghost use Rattle.drive.specs.Drives.{encoded};
 ghost use Rattle.drive.specs.Told.{numbersOf, toldGiven, toldRefused, toldRefusedAt, turnNumbers, yieldedNumbers, foundNumbers};
 use layout::Found;
@@ -10,6 +10,7 @@ use promises::CentreAnswer;
 use promises::FeedAnswer;
 use promises::LiftAnswer;
 use promises::MaskAnswer;
+use promises::NextAnswer;
 use promises::RadiusAnswer;
 use promises::RecordAnswer;
 use promises::SplitAnswer;
@@ -94,6 +95,20 @@ pub fn centre_told(a: CentreAnswer) -> Told
     match a {
         CentreAnswer::At(c) => given(c.0, 0),
         CentreAnswer::Refused(number) => refused(number),
+    }
+}
+
+pub fn next_told(a: NextAnswer) -> Told
+    ensures { λ r. ⌜ numbersOf r ≡ encoded (nextSays a) ⌝ }
+{
+    match a {
+        NextAnswer::Shorter(c, length, period) => Told {
+            kind: 0,
+            first: c.0,
+            second: length,
+            third: period,
+        },
+        NextAnswer::Refused(number) => refused(number),
     }
 }
 

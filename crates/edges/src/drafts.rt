@@ -13,6 +13,7 @@ use promises::CentreAnswer;
 use promises::Draft;
 use promises::FeedAnswer;
 use promises::MaskAnswer;
+use promises::NextAnswer;
 use promises::RadiusAnswer;
 use promises::RecordAnswer;
 use promises::SplitAnswer;
@@ -130,7 +131,9 @@ fn split_each(draft: Draft) {
     split_into(draft, 8);
 }
 
-fn say_centre(a: CentreAnswer) {
+fn say_longest(draft: Draft) {
+    text(b"longest ending at");
+    let a = board::longest(draft);
     match a {
         CentreAnswer::At(c) => number(c.0),
         CentreAnswer::Refused(x) => refusal(x),
@@ -138,17 +141,21 @@ fn say_centre(a: CentreAnswer) {
     text(b"\n");
 }
 
-fn say_longest(draft: Draft) {
-    text(b"longest ending at");
-    let a = board::longest(draft);
-    say_centre(a);
-}
-
 fn say_next(draft: Draft, c: usize) {
     text(b"next after");
     number(c);
     let a = board::next(draft, Centre(c));
-    say_centre(a);
+    match a {
+        NextAnswer::Shorter(d, length, period) => {
+            number(d.0);
+            text(b" length");
+            number(length);
+            text(b" period");
+            number(period);
+        }
+        NextAnswer::Refused(x) => refusal(x),
+    }
+    text(b"\n");
 }
 
 fn say_radius(draft: Draft, c: usize) {

@@ -14,14 +14,11 @@ use cells::GATHERED;
 use cells::Place;
 use cells::Places;
 use cells::ROWS;
-use cells::centre_entry;
-use cells::minus;
 use cells::narrow;
 use cells::place_entry;
 use cells::put_place_entry;
 use cells::store;
-use cells::wide;
-use cells::within;
+use iterator::reading::period_at;
 
 // The centre of the ending of len picks, of n.
 fn centre_of(n: usize, len: usize) -> Centre
@@ -31,15 +28,13 @@ fn centre_of(n: usize, len: usize) -> Centre
     Centre((n + 1 - len) + n)
 }
 
-// The least period of the ending of length len: the next centre less its own, brought into 1 to len.
+// The least period of the ending of length len.
 fn period_of(next: &ByCentre, n: usize, len: usize) -> usize
     requires { ⌜ (n ≤ mostPicks) × (0 < len) × (len ≤ n) ⌝ }
     ensures { λ r. ⌜ r ≡ periodOf (now (next .entry)) n len ⌝ }
     ensures small { λ r. ⌜ (0 < r) × (r ≤ len) ⌝ }
 {
-    let c = centre_of(n, len);
-    let after = wide(centre_entry(next, c));
-    within(len, minus(after, c.0))
+    period_at(next, centre_of(n, len), len)
 }
 
 // The gathered word of the place before a leading ending, and the length of the next.

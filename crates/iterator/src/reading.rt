@@ -2,13 +2,15 @@
 ghost use mathlib.Core.Path.{_≡_};
 ghost use Prim.Native.Nat.{_≤_, _<_};
 ghost use Rattle.words.specs.Definitions.{mostPicks};
-ghost use Rattle.models.specs.Iterator.{radiusOf, isEnding};
+ghost use Rattle.cells.specs.Lanes.{centreEntries};
+ghost use Rattle.models.specs.Iterator.{radiusOf, isEnding, periodAt};
 ghost use Rattle.models.specs.Answers.{RadiusIs, LongestIs, NextIs};
 ghost use Rattle.iterator.specs.Says.{shorterSays};
 use crate::reflection::reflected_radius;
 use cells::ByCentre;
 use cells::Centre;
 use cells::at_centre;
+use cells::centre_entry;
 use cells::minus;
 use cells::wide;
 use cells::within;
@@ -54,13 +56,22 @@ fn is_ending(radius: &ByCentre, n: usize, s: Centre, c: Centre) -> bool
     false
 }
 
-// The centre of a next shorter ending, or that there is none.
+// The least period of the ending of len picks at c: the next ending's centre less c, brought into 1 to len.
+pub fn period_at(next: &ByCentre, c: Centre, len: usize) -> usize
+    requires { ⌜ c .0 < centreEntries ⌝ }
+    ensures { λ r. ⌜ r ≡ periodAt (now (next .entry)) (c .0) len ⌝ }
+{
+    let after = wide(centre_entry(next, c));
+    within(len, minus(after, c.0))
+}
+
+// Of an ending the centre of the next shorter one, its own length and its own least period; or that there is no such ending.
 pub enum Shorter {
-    At(Centre),
+    At(Centre, usize, usize),
     Missing,
 }
 
-// The centre of the next shorter ending after the one at c, the paper's nextPal;
+// The next shorter ending after the one at c, the paper's nextPal;
 // missing where c belongs to no ending or to the empty one.
 pub fn next_shorter(
     radius: &ByCentre,
@@ -73,7 +84,9 @@ pub fn next_shorter(
     ensures { λ r. ⌜ NextIs (now (radius .entry)) (now (next .entry)) n (stored .0) (c .0) (shorterSays r) ⌝ }
 {
     if is_ending(radius, n, longest(n, stored), c) {
-        return Shorter::At(Centre(wide(at_centre(next, c))));
+        let length = 2 * n + 1 - c.0;
+        let period = period_at(next, c, length);
+        return Shorter::At(Centre(c.0 + period), length, period);
     }
     Shorter::Missing
 }

@@ -4,12 +4,14 @@ use mathlib.Core.Path.{_≡_, sym, _∙_}
 use Prim.Native.Nat.{ℕ, _+_, _*_, _-_, _/_, _≤_, _<_}
 use native.Mathlib.Omega.{arith}
 use native.Mathlib.Decide.{decLe}
-use Rattle.words.specs.Definitions.{Ending, LongestEnding, NextEnding, Mirrored}
+use Rattle.words.specs.Definitions.{lengthAt, LeastPeriod, Ending, LongestEnding, NextEnding, Mirrored}
 use Rattle.words.specs.Search.{largest-one}
 use Rattle.words.specs.Mirror.{mirror, ending}
 use Rattle.words.specs.Prefixes.{Agree, agree-back}
-use Rattle.words.specs.Computed.{longestCentre, nextCentre, radiusAt}
-use Rattle.words.specs.Laws.{longest-is, next-ending, radius-at}
+use Rattle.words.specs.Periods.{next-period}
+use Rattle.words.specs.Computed.{longestCentre, radiusAt}
+use Rattle.words.specs.Laws.{longest-is, radius-at}
+use Rattle.models.specs.Linked.{Fore}
 
 -- c is the centre of an ending of the first e letters
 pub record EndingAt (w : ℕ → ℕ) (e c : ℕ) : Type 0 where
@@ -34,6 +36,10 @@ pub record NextEndingAt (w : ℕ → ℕ) (n c d : ℕ) : Type 0 where
   pub is : EndingAt w n d
   pub least : (e : ℕ) → EndingAt w n e → c < e → d ≤ e
 
+-- as the list of ending centres has it
+pub fore-next : {w N P : ℕ → ℕ} {n hi c : ℕ} → Fore N P (EndingAt w n) hi c → NextEndingAt w n c (N c)
+fore-next f = record { more = f .more; is = f .to .is; least = f .least }
+
 module _ {w : ℕ → ℕ} where
   -- The bridge: an ending of length len has the centre 2n + 1 - len
 
@@ -48,14 +54,14 @@ module _ {w : ℕ → ℕ} where
 
   -- What `words` computes, by centres
 
-  pub longest-ending : {n s : ℕ} → LongestEndingAt w n s → LongestEnding w n (2 * n + 1 - s)
+  pub longest-ending : {n s : ℕ} → LongestEndingAt w n s → LongestEnding w n (lengthAt n s)
   longest-ending {n} {s} h =
       let low : n < s = h .is .low in
       let high : s ≤ 2 * n + 1 = h .is .high in
       record {
         below = omega arith;
         is = at-ending (omega arith) (h .is);
-        most = λ k e l. elim (decLe k (2 * n + 1 - s)) [
+        most = λ k e l. elim (decLe k (lengthAt n s)) [
           | yes y ↦ y
           | no y ↦ absurd (h .first (2 * n + 1 - k) (omega arith) (ending-at (omega (arith, e .fits)) e))
         ];
@@ -65,19 +71,19 @@ module _ {w : ℕ → ℕ} where
   unfolding longestCentre
   longest-centre-at {n} h = omega (arith, h .is .low, h .is .high, largest-one (longest-is w n) (longest-ending h))
 
-  pub next-centre-at : {n c d : ℕ} → EndingAt w n c → NextEndingAt w n c d → nextCentre w n c ≡ d
-  unfolding nextCentre
-  next-centre-at {n} {c} {d} e h =
-      let more : c < d = h .more in
-      let high : d ≤ 2 * n + 1 = h .is .high in
-      let low : n < c = e .low in
-      let len : ℕ = 2 * n + 1 - c in
-      let after : NextEnding w n len (2 * n + 1 - d) = record {
-        below = omega arith;
-        is = at-ending (omega arith) (h .is);
-        most = λ k f l. omega (arith, h .least (2 * n + 1 - k) (ending-at (omega (arith, f .fits)) f) (omega arith));
-      } in
-      omega (arith, largest-one (next-ending w n len (omega arith)) after)
+  module _ {n c d : ℕ} (e : EndingAt w n c) (h : NextEndingAt w n c d) where
+    pub next-ending-at : NextEnding w n (lengthAt n c) (lengthAt n d)
+    next-ending-at = record {
+      below = omega (arith, h .more, h .is .high);
+      is = at-ending (omega (arith, h .is .high)) (h .is);
+      most = λ k f l. omega (arith, h .least (2 * n + 1 - k) (ending-at (omega (arith, f .fits)) f) (omega arith));
+    }
+
+    -- "p ← len(x) - len(nextPal(x))"
+    pub next-least : LeastPeriod w n (lengthAt n c) (d - c)
+    next-least =
+        let z : lengthAt n c - lengthAt n d ≡ d - c = omega (arith, h .more, h .is .high) in
+        rw z at (next-period (at-ending (omega (arith, e .high)) e) next-ending-at)
 
   pub radius-widest : {n c e : ℕ} → Widest w n c e → radiusAt w n c ≡ e - c / 2
   radius-widest {n} {c} {e} h =
@@ -87,7 +93,7 @@ module _ {w : ℕ → ℕ} where
       let r = radius-at w n c (omega arith) (omega arith) in
       let len : ℕ = r .0 in
       let m : Mirrored w n c len = r .1 .is in
-      let wide : 2 * e + 1 - c ≤ len = r .1 .most (2 * e + 1 - c)
+      let wide : lengthAt e c ≤ len = r .1 .most (lengthAt e c)
       (record { end = e; within = fits; is = at-ending (omega arith) (h .is); at = omega arith }) (omega arith) in
       let narrow : m .end ≤ e = h .most (m .end) (m .within) (ending-at (omega (arith, m .at, m .is .fits)) (m .is)) in
       r .2 ∙ omega (arith, m .at, m .is .fits)

@@ -1,21 +1,21 @@
 -- What the engine computes: the paper's Section 4 on lists, total on any contents.
 use mathlib.Core.List.{List, [], _∷_}
-use Prim.Native.Nat.{ℕ, zero, suc, _+_, _-_, _*_, min}
+use Prim.Native.Nat.{ℕ, zero, suc, _+_, _-_, min}
 use lib.ListN.{getD, length, set}
 use lib.Seq.{sets}
 use lib.Bits.{bitOr}
 use Rattle.cells.specs.Lanes.{ByPlace, withRows, withGathered}
-use Rattle.words.specs.Definitions.{centre, nextLeading}
+use Rattle.words.specs.Definitions.{centre, lengthAt, nextLeading}
 use Rattle.words.specs.Computed.{mended, raised}
-use Rattle.models.specs.Iterator.{within}
+use Rattle.models.specs.Iterator.{periodAt}
 
--- the least period of the ending of length len, from the list of ending centres N: next centre less own centre
+-- the least period of the ending of length len
 unfoldable pub periodOf : List ℕ → ℕ → ℕ → ℕ
-periodOf N n len = within len (getD N (centre n len) 0 - centre n len)
+periodOf N n len = periodAt N (centre n len) len
 
 -- the length of the longest ending, whose centre is s; brought into 0 to n
 abbrev pub longestLength : ℕ → ℕ → ℕ
-longestLength n s = min (2 * n + 1 - s) n
+longestLength n s = min (lengthAt n s) n
 
 -- after a walk: the gathered values, all values of the visited places joined, and the visited lengths
 pub record Walked : Type 0 where

@@ -11,20 +11,16 @@ use lib.Bits.{bitOr}
 use Rattle.cells.specs.Lanes.{ByPlace, rowsLane, gatheredLane, placeStored}
 use Rattle.words.specs.Definitions.{centre, nextLeading, Cubic}
 use Rattle.words.specs.Computed.{cubic?, mended, raised}
-use Rattle.models.specs.Iterator.{within}
+use Rattle.models.specs.Iterator.{periodAt}
 use Rattle.models.specs.Engine.{periodOf, longestLength, Walked, walked, walk, Seen, seenAs, seen, steppedAs, closed, stepped}
 use Rattle.models.specs.Walking.{walk-less}
 
 -- The walk over the leading endings
 
--- the period: c is the ending's centre, x the next one, d their difference; it is small where len is
-pub period-as : (N : List ℕ) (n len c x x' d p : ℕ) → c ≡ centre n len → x ≡ getD N c 0 → x' ≡ x → d ≡ x' - c → p ≡ within len d
-    → p ≡ periodOf N n len
+-- the period: c is the ending's centre; it is small where len is
+pub period-as : (N : List ℕ) (n len c p : ℕ) → c ≡ centre n len → p ≡ periodAt N c len → 0 < len → (p ≡ periodOf N n len) × ((0 < p) × (p ≤ len))
 unfolding periodOf
-period-as N n len c x x' d p e₁ e₂ e₃ e₄ e₅ = rw (e₅, e₄, e₃, e₂, e₁)
-
-pub period-small : {len p : ℕ} (d : ℕ) → p ≡ within len d → 0 < len → (0 < p) × (p ≤ len)
-period-small d e l = omega arith
+period-as N n len c p e f l = (rw (f, e), omega arith)
 
 -- the next length, as the code takes its two ways: no division where three periods do not fit
 pub next-short : (len p : ℕ) → 0 < p → p ≤ len → len < 3 * p → len - p ≡ nextLeading len p

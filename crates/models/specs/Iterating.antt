@@ -8,13 +8,15 @@ use native.Mathlib.Decide.{decLe, decLt, ℕ-discrete}
 use lib.ListN.{length, length-set}
 use borrow.Author.Tests.{le-leb, lt-leb, eq-eqb, ne-eqb}
 use Rattle.cells.specs.Lanes.{centreEntries, placeEntries}
-use Rattle.words.specs.Definitions.{mostPicks}
+use Rattle.words.specs.Cases.{true-false}
+use Rattle.words.specs.Definitions.{mostPicks, lengthAt, LeastPeriod}
+use Rattle.words.specs.Periods.{whole-period}
 use Rattle.words.specs.Prefixes.{Agree, agree-back}
 use Rattle.words.specs.Computed.{longestCentre, radiusAt}
-use Rattle.models.specs.Centres.{EndingAt, Widest, at-as, longest-centre-at, radius-widest}
+use Rattle.models.specs.Centres.{EndingAt, Widest, NextEndingAt, at-as, longest-centre-at, next-least, radius-widest}
 use Rattle.models.specs.Reflection.{StartsAt, empty-at}
 use Rattle.models.specs.Linked.{linked-as, linked-from}
-use Rattle.models.specs.Iterator.{Iterator, radiusOf, longestOf, lastCentre, isEnding, Scanned, links, unlinks, scanOf, lengthened, lostPlace, lostHead, appended}
+use Rattle.models.specs.Iterator.{Iterator, radiusOf, longestOf, lastCentre, isEnding, periodAt, Scanned, links, unlinks, scanOf, lengthened, lostPlace, lostHead, appended}
 use Rattle.models.specs.Stores.{at, set-here, set-there}
 use Rattle.models.specs.Scanning.{LastWith, Radii, Stretches, stretches-as, scan-begin, Found, scan-right, reflected-widest}
 use Rattle.models.specs.Unlinking.{Chain, Old, lengthens, left-begin, unlinks-right}
@@ -173,3 +175,22 @@ module _ {w : ℕ → ℕ} {n s : ℕ} {R : List ℕ} (h : Radii w n s R) where
           (ne-eqb (radiusOf R n s c) (n - c / 2) (λ z. f (let q : c / 2 + radiusOf R n s c ≡ n = omega arith in rw q at (r .is)) (omega arith)))
     ]
   ]
+
+-- on any contents: what passes for an ending that is not empty has a centre of at most 2n
+pub ending-high : (R : List ℕ) (n s c : ℕ) → isEnding R n s c ≡ true → c ≤ 2 * n
+ending-high R n s c e = elim (decLe c (lastCentre n)) [
+  | yes l ↦ omega arith
+  | no l ↦ elim (decLe s c) [
+    | yes x ↦ absurd (true-false e (simp (le-leb _ _ x, lt-leb c (lastCentre n) (omega arith))))
+    | no x ↦ absurd (true-false e (simp (lt-leb s c (omega arith))))
+  ]
+]
+
+-- the least period of an ending that is not empty
+pub period-right : {w : ℕ → ℕ} {n c : ℕ} (N : List ℕ) → EndingAt w n c → c ≤ 2 * n → NextEndingAt w n c (at N c)
+    → LeastPeriod w n (lengthAt n c) (periodAt N c (lengthAt n c))
+period-right {w} {n} {c} N e l h =
+    let a : LeastPeriod w n (lengthAt n c) (at N c - c) = next-least e h in
+    let z : periodAt N c (lengthAt n c) ≡ at N c - c =
+    omega (arith, a .is .pos, a .least (lengthAt n c) (whole-period (omega (arith, e .low)) (omega arith))) in
+    rw z a

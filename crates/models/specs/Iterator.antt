@@ -55,6 +55,11 @@ lastCentre n = 2 * n
 abbrev pub isEnding : List ℕ → ℕ → ℕ → ℕ → Bool
 isEnding R n s c = cond (leb s c) (cond (leb c (lastCentre n)) (eqb (radiusOf R n s c) (n - c / 2)) false) false
 
+-- the least period of the ending of length len with the centre c, from the list of ending centres N: the next centre less its own, brought
+-- into 1 to len
+abbrev pub periodAt : List ℕ → ℕ → ℕ → ℕ
+periodAt N c len = within len (getD N c 0 - c)
+
 -- Append
 
 -- the place where a stretch of radius r at centre c starts: the picks before it

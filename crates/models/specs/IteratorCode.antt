@@ -10,7 +10,9 @@ use lib.ListN.{getD, set}
 use lib.Dec.{eqb}
 use borrow.Author.Tests.{lt-ltb, le-ltb, eq-eqb}
 use Rattle.cells.specs.Lanes.{ByCentre, ByPlace, radiusLane, lendsLane, nextLane, prevLane, headsLane, centreStored, placeStored, withHeads}
-use Rattle.models.specs.Iterator.{start, reflection, reflectedRadius, longestOf, isEnding, extends, scan, link, unlink, unlinks, appended}
+use Rattle.words.specs.Definitions.{lengthAt}
+use Rattle.words.specs.Computed.{nextShorter}
+use Rattle.models.specs.Iterator.{start, reflection, reflectedRadius, longestOf, isEnding, periodAt, extends, scan, link, unlink, unlinks, appended}
 use Rattle.models.specs.Lanes.{iteratorIn, Moved, moved, rescanned, linksIn, relinked}
 use Rattle.models.specs.Answers.{nextOf}
 
@@ -20,12 +22,12 @@ pub reflected-as : (R : List ℕ) (n s c z x x' y r : ℕ) → z ≡ reflection 
     → r ≡ reflectedRadius R n s c
 reflected-as R n s c z x x' y r e₁ e₂ e₃ e₄ e₅ = rw (e₅, e₄, e₃, e₂, e₁)
 
--- The next shorter ending: s is the stored centre in range, y what stands at c
+-- The next shorter ending: s is the stored centre in range
 
 module _ (R N : List ℕ) (n stored s c : ℕ) where
-  pub next-there : (x y : ℕ) → s ≡ longestOf n stored → isEnding R n s c ≡ true → x ≡ getD N c 0 → y ≡ x
-      → some y ≡ nextOf R N n (longestOf n stored) c
-  next-there x y e f g h = rw (← e, f, h, g)
+  pub next-there : (p : ℕ) → s ≡ longestOf n stored → isEnding R n s c ≡ true → p ≡ periodAt N c (lengthAt n c)
+      → some (nextShorter (c + p) (lengthAt n c) p) ≡ nextOf R N n (longestOf n stored) c
+  next-there p e f g = rw (← e, f, g)
 
   pub next-missing : s ≡ longestOf n stored → isEnding R n s c ≡ false → none ≡ nextOf R N n (longestOf n stored) c
   next-missing e f = rw (← e, f)

@@ -5,24 +5,23 @@ use Prim.Native.Nat.{ℕ, zero, suc, _+_, _-_, _*_, _≤_, _<_}
 use native.Mathlib.Omega.{arith}
 use native.Mathlib.Decide.{decLe, decLt, ℕ-discrete}
 use lib.ListN.{length, set, length-set}
-use Rattle.words.specs.Definitions.{mostPicks, mostVisits, centre, Ending, LongestEnding, LeastPeriod, Leading, Cubic, nextLeading}
+use Rattle.words.specs.Definitions.{mostPicks, mostVisits, centre, lengthAt, LongestEnding, LeastPeriod, Leading, Cubic, nextLeading}
 use Rattle.words.specs.Search.{passing, passing-with, passing-skip}
-use Rattle.words.specs.Periods.{ending-period, period-ending, whole-period}
 use Rattle.words.specs.Computed.{leading?, cubic?, gathered, mended, joinAll}
 use Rattle.words.specs.Lengths.{next-third}
 use Rattle.words.specs.Series.{next-is}
 use Rattle.words.specs.FewVisits.{Shrinking, one, next, few, nineteen}
 use Rattle.words.specs.Proposition3.{gathered-kept, gathered-mended}
-use Rattle.models.specs.Centres.{EndingAt, LongestEndingAt, ending-at, at-ending, longest-ending}
-use Rattle.models.specs.Linked.{Fore, Linked}
-use Rattle.models.specs.Iterator.{within}
+use Rattle.models.specs.Centres.{EndingAt, LongestEndingAt, fore-next, ending-at, longest-ending}
+use Rattle.models.specs.Linked.{Linked}
 use Rattle.models.specs.Engine.{periodOf, longestLength, Walked, walked, walk}
+use Rattle.models.specs.Iterating.{period-right}
 use Rattle.models.specs.Stores.{at, set-here, set-there}
 
 -- The length of the longest ending
 
 pub longest-length : {w : ℕ → ℕ} {n s : ℕ} → LongestEndingAt w n s → LongestEnding w n (longestLength n s)
-longest-length {n = n} {s = s} h = let z : longestLength n s ≡ 2 * n + 1 - s = omega (arith, h .is .low) in rw z (longest-ending h)
+longest-length {n = n} {s = s} h = let z : longestLength n s ≡ lengthAt n s = omega (arith, h .is .low) in rw z (longest-ending h)
 
 -- The least periods, from the list of ending centres
 
@@ -31,28 +30,6 @@ abbrev pub Tells : (ℕ → ℕ) → ℕ → List ℕ → Type 0
 Tells w n N = (len : ℕ) → 0 < len → Leading w n len → LeastPeriod w n len (periodOf N n len)
 
 module _ {w : ℕ → ℕ} {n : ℕ} where
-  -- "p ← len(x) - len(nextPal(x))"
-  next-least : {N P : ℕ → ℕ} {len c : ℕ} → 0 < len → c + len ≡ 2 * n + 1 → Ending w n len → Fore N P (EndingAt w n) (2 * n + 1) c
-      → LeastPeriod w n len (N c - c)
-  next-least {N} {P} {len} {c} h s e f =
-      let more : c < N c = f .more in
-      let within : N c ≤ 2 * n + 1 = f .within in
-      record {
-        is = ending-period {k = 2 * n + 1 - N c} e (at-ending {c = N c} (omega arith) (f .to .is)) (omega arith) (omega arith);
-        least = λ q b. elim (decLe len q) [
-          | yes y ↦ omega arith
-          | no y ↦ omega (
-            arith,
-            b .pos,
-            f .least (c + q) (ending-at {len = len - q} (omega arith) (period-ending e b (omega arith)))
-                (omega (arith, b .pos)),
-          )
-        ];
-      }
-
-  least-within : {len p : ℕ} → len ≤ n → 0 < len → LeastPeriod w n len p → LeastPeriod w n len (within len p)
-  least-within {len} {p} l h a = let z : within len p ≡ p = omega (arith, a .is .pos, a .least len (whole-period l h)) in rw z a
-
   pub tells : {P : ℕ → ℕ} {s : ℕ} (N : List ℕ) → Linked (at N) P (EndingAt w n) s (2 * n + 1) → LongestEndingAt w n s → Tells w n N
   unfolding periodOf
   tells {P} {s} N list long len some l =
@@ -60,7 +37,8 @@ module _ {w : ℕ → ℕ} {n : ℕ} where
       let fits : len ≤ n = l .is .fits in
       let e : EndingAt w n c = ending-at (omega arith) (l .is) in
       let low : s ≤ c = elim (decLe s c) [ yes y ↦ y | no y ↦ absurd (long .first c (omega arith) e) ] in
-      least-within fits some (next-least {N = at N} {P = P} some (omega arith) (l .is) (list .fore c e low (omega arith)))
+      let z : lengthAt n c ≡ len = omega arith in
+      rw z at (period-right N e (omega arith) (fore-next (list .fore c e low (omega arith))))
 
 -- The walk on any contents
 

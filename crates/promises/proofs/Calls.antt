@@ -52,7 +52,7 @@ found-outcome b (ask longest) p =
     fine tt (gave-accepted refl) (record { L = _; longest = longest-is (word (b .row)) (length (b .row)); is = refl })
 found-outcome b (ask (mask i)) p = fine tt (gave-accepted refl) (record { m = _; mask = mask-yes (b .K) (b .row) i; is = refl })
 found-outcome b (ask (radius c)) p = fine tt (gave-accepted refl) (radius-found b c (p .1 .0))
-found-outcome b (ask (next c)) p = next-found b c (p .1 .0)
+found-outcome b (ask (next c)) p = next-found b c
 found-outcome b (ask (fold i k output)) p = record-found b i k output
 
 -- whatever is stored, what is found in it is refused under these numbers only

@@ -10,11 +10,12 @@ use lib.ListN.{length, take, drop, length-append}
 use lib.Seq.{take-at, drop-at}
 use borrow.Author.Tests.{le-leb}
 use Rattle.words.specs.Cases.{true-false}
-use Rattle.words.specs.Definitions.{mostPicks, mostSections, word}
-use Rattle.words.specs.Computed.{splitOf, visits, longestCentre}
+use Rattle.words.specs.Definitions.{mostPicks, mostSections, word, centre, Ending, nextLeading, Follows, Visits}
+use Rattle.words.specs.Computed.{splitOf, visits, longestCentre, leastPeriod, nextEnding, shorterAfter}
 use Rattle.words.specs.Computed.{longest as longestOf}
-use Rattle.words.specs.Laws.{longest-is, longest-centre, visits-are}
+use Rattle.words.specs.Laws.{least-period, longest-is, longest-centre, next-after, visits-are}
 use Rattle.words.specs.FewVisits.{few-visits, visits-some}
+use Rattle.words.specs.Visiting.{visit-leads, visit-next}
 use Rattle.words.specs.Splits.{Splitting, given, lacking, split-law}
 use Rattle.models.specs.Core.{means}
 use Rattle.models.specs.Centres.{longest-centre-at}
@@ -22,9 +23,9 @@ use Rattle.promises.specs.declared.Draft.{Draft}
 use Rattle.promises.specs.declared.Started.{Started}
 use Rattle.promises.specs.declared.Fed.{Fed}
 use Rattle.promises.specs.Answers.{Said, gave, refused, refusedAt, Reply, reply, startSays, feedSays, filled}
-use Rattle.promises.specs.Refusals.{startRefusal, splitRefusal, longestRefusal}
-use Rattle.promises.specs.Book.{Book, blank, split, longest, lent, startTaken}
-use Rattle.promises.specs.Replies.{orNoSplit, splitReply, refusalOf, foundFor, replyTo}
+use Rattle.promises.specs.Refusals.{startRefusal, splitRefusal, centreRefusal, longestRefusal}
+use Rattle.promises.specs.Book.{Book, blank, split, longest, next, lent, startTaken}
+use Rattle.promises.specs.Replies.{orNoSplit, orNoEnding, splitReply, refusalOf, foundFor, replyTo}
 use Rattle.promises.specs.BookLaws.{Case, taken, left, start-cases, passes7, unless-zero, unless-not}
 use Rattle.promises.specs.State.{arraysOf}
 use Rattle.promises.specs.Holds.{Holds}
@@ -97,23 +98,48 @@ split-right {d} {b} h i k before r x y z l p =
 
 -- Visits
 
+centre-passes : (n K c : ℕ) → n ≤ mostPicks → 1 ≤ K → K ≤ mostSections → 1 ≤ c → c ≤ 2 * n + 1 → centreRefusal n K c ≡ 0
+unfolding centreRefusal
+centre-passes n K c x y z l m = passes7 n K _ x y z ∙ simp (le-leb 1 c l, le-leb c (2 * n + 1) m)
+
+-- the call for the next shorter ending after one of length a
+next-said : {d : Draft} {b : Book} {a : ℕ} {r : Reply} → Holds d b → 0 < a → Ending (word (b .row)) (length (b .row)) a
+    → Reads d (next (centre (length (b .row)) a)) r
+    → r .said ≡ gave (centre (length (b .row)) (nextEnding (word (b .row)) (length (b .row)) a) ∷ a ∷ leastPeriod (word (b .row)) (length (b .row)) a ∷ [])
+unfolding replyTo refusalOf lent foundFor shorterAfter
+next-said {d} {b} {a} h l e p =
+    let n : ℕ = length (b .row) in
+    said-is (p .meaning b h ∙ unless-zero _ [] _ (centre-passes n (b .K) (centre n a) (fits h) (h .least) (h .most) (omega arith) (omega (arith, e .fits))))
+    ∙ ap orNoEnding (next-after (word (b .row)) n (centre n a) a l e refl)
+
+-- a visit leads to the next one, or to the empty ending
+leads-to : {d : Draft} {b : Book} {vs : List ℕ} {x y : ℕ} {r : Reply} → Holds d b → Visits (word (b .row)) (length (b .row)) vs
+    → Follows x y (vs ++ 0 ∷ []) → Reads d (next (centre (length (b .row)) x)) r
+    → (to len p : ℕ) × (r .said ≡ gave (to ∷ len ∷ p ∷ [])) × (len ≡ x) × (y ≡ nextLeading len p)
+leads-to {b = b} {x = x} h v f p =
+    let l = visit-leads v f in
+    let is : Ending (word (b .row)) (length (b .row)) x = l .1 .is in
+    (_, _, _, next-said h (l .0) is p, refl, visit-next v f _ (least-period x (l .0) (is .fits)))
+
 visits-right : {d : Draft} {b : Book} {pick : ℕ} {before : List ℕ} {r : Fed} {after : List ℕ} → Holds d b → FeedPromise d pick before r after
-    → Accepted (feedSays (r .answer)) → VisitsRight (b .row ++ pick ∷ []) before (feedSays (r .answer)) after
+    → Accepted (feedSays (r .answer)) → VisitsRight (b .row ++ pick ∷ []) before (feedSays (r .answer)) (r .state) after
 visits-right {d} {b} {pick} {before} {r} {after} h p ok =
     let u : List ℕ = b .row ++ pick ∷ [] in
     let vs : List ℕ = visits (word u) (length u) in
     let c : ℕ = length vs in
     let some : 0 < length u = omega (arith, length-append (b .row) (pick ∷ [])) in
     let e : after ≡ vs ++ drop c before = fed-list h p ok in
+    let front : take c after ≡ vs = ap (take c) e ∙ take-at vs (drop c before) c refl in
     record {
       mask = _;
       c = c;
       says = fed-said h p ok;
       fits = omega (arith, ap length e ∙ length-append vs (drop c before));
-      visited = rw (ap (take c) e ∙ take-at vs (drop c before) c refl) (visits-are (word u) (length u));
+      visited = rw front (visits-are (word u) (length u));
       some = visits-some (word u) (length u) some;
       few = few-visits (visits-are (word u) (length u)) some;
       kept = ap (drop c) e ∙ drop-at vs (drop c before) c refl;
+      walked = λ x y q f g. leads-to (fed-holds h p ok) (visits-are (word u) (length u)) (rw front at f) g;
     }
 
 -- Starts

@@ -1,22 +1,22 @@
 -- What is found, from the book and in the stored arrays: which line refuses it, or what it says.
-use mathlib.Core.Path.{_≡_, refl, ap, _∙_}
+use mathlib.Core.Path.{_≡_, refl, ap}
 use mathlib.Core.Bool.{Bool, true, false, cond}
 use mathlib.Core.Logic.{inl, inr}
 use mathlib.Core.List.{List, [], _∷_, List·Memᴰ, List·Memᴰ·head, List·Memᴰ·tail}
 use mathlib.Core.Option.{Option, some, none}
-use Prim.Native.Nat.{ℕ, suc, _+_, _*_, _-_, _≤_, _<_}
+use Prim.Native.Nat.{ℕ, suc, _+_, _*_, _-_, _≤_}
 use native.Mathlib.Omega.{arith}
 use native.Mathlib.Decide.{decLt}
 use lib.Dec.{leb}
 use lib.ListN.{length}
 use borrow.Author.Tests.{le-leb, lt-leb}
 use Rattle.words.specs.Cases.{clash}
-use Rattle.words.specs.Definitions.{word, centre, Ending}
-use Rattle.words.specs.Search.{both?}
-use Rattle.words.specs.Mirror.{ending?}
-use Rattle.words.specs.Computed.{nextEnding, nextAfter, radiusAt, splitOf}
+use Rattle.words.specs.Definitions.{word}
+use Rattle.words.specs.Search.{smallest-one}
+use Rattle.words.specs.Periods.{next-period}
+use Rattle.words.specs.Computed.{NextShorter, shorterAfter, nextAfter, radiusAt, splitOf}
 use Rattle.words.specs.Computed.{mask as maskOf}
-use Rattle.words.specs.Laws.{row-bit, row-past, mask-bit, next-ending, next-centre, next-after, next-missing, radius-at}
+use Rattle.words.specs.Laws.{row-bit, row-past, mask-bit, least-period, next-ending, NextAfter, there, nowhere, next-law, radius-at}
 use Rattle.words.specs.Splits.{Splitting, given, lacking, split-law, named-one}
 use Rattle.promises.specs.Answers.{gave, refused, Under, Reply, reply, filled}
 use Rattle.layout.specs.Record.{recordOf}
@@ -71,10 +71,10 @@ radius-found b c f =
     record { len = r .0; longest = r .1; is = ap (λ x. reply (gave (x ∷ [])) []) (r .2) }
 
 -- the next shorter ending, or the want of one that has the centre
-pub next-found : (b : Book) (c : ℕ) → (Outside 1 (2 * length (b .row) + 1) c → ⊥)
+pub next-found : (b : Book) (c : ℕ)
     → Outcome b (ask (next c)) (noEnding (b .row) c ∷ []) (reply (orNoEnding (nextAfter (word (b .row)) (length (b .row)) c)) [])
-unfolding First NoneMet Says lent
-next-found b c f = go (both? (decLt 0 (2 * n + 1 - c)) (ending? w n (2 * n + 1 - c)))
+unfolding First NoneMet Says lent shorterAfter
+next-found b c = go (nextAfter w n c) (next-law w n c)
   where
     w : ℕ → ℕ
     w = word (b .row)
@@ -82,19 +82,23 @@ next-found b c f = go (both? (decLt 0 (2 * n + 1 - c)) (ending? w n (2 * n + 1 -
     n : ℕ
     n = length (b .row)
 
-    go : Dec ((0 < 2 * n + 1 - c) × Ending w n (2 * n + 1 - c))
-        → Outcome b (ask (next c)) (noEnding (b .row) c ∷ []) (reply (orNoEnding (nextAfter w n c)) [])
-    go (yes a) =
-        let len : ℕ = 2 * n + 1 - c in
-        let e : centre n len ≡ c = omega (arith, a .0, a .1 .fits) in
-        let q : nextAfter w n c ≡ some (centre n (nextEnding w n len)) =
-        next-after w n c len (a .0) (a .1) e ∙ ap some (next-centre w n c len e (a .1 .fits)) in
-        rw q (fine (λ g. g len (omega (arith, a .0)) (a .1) e, tt) (gave-accepted refl)
-        (record { len = len; some = a .0; ending = a .1; at = e; shorter = _; next = next-ending w n len (a .0); is = refl }))
-    go (no g) =
-        let h : (len : ℕ) → 0 < len → Ending w n len → centre n len ≡ c → ⊥ =
-        λ len x y z. let q : 2 * n + 1 - c ≡ len = omega (arith, y .fits) in g (rw q (x, y)) in
-        rw (next-missing w n c h (not-outside 1 (2 * n + 1) c f .0)) (under 10 (inl (λ len x y z. h len (omega (arith, x)) y z, refl)) refl)
+    go : (o : Option NextShorter) → NextAfter w n c o → Outcome b (ask (next c)) (noEnding (b .row) c ∷ []) (reply (orNoEnding o) [])
+    go o (there len q l e z) =
+        let next = next-ending w n len l in
+        let least = least-period {w = w} {n = n} len l (e .fits) in
+        rw q (fine (λ g. g len (omega (arith, l)) e z, tt) (gave-accepted refl) (record {
+          len = len;
+          some = l;
+          ending = e;
+          at = z;
+          shorter = _;
+          next = next;
+          p = _;
+          period = least;
+          less = omega (arith, next .below, smallest-one least (next-period e next));
+          is = refl;
+        }))
+    go o (nowhere q f) = rw q (under 10 (inl (λ len x y z. f len (omega (arith, x)) y z, refl)) refl)
 
 -- the record of the split named, where it fits the output
 pub record-found : (b : Book) (i k : ℕ) (output : List ℕ)
@@ -135,9 +139,9 @@ unfolding orNoSplit
 no-split-only none list numbers f g = refused-only 9 list (9 ∷ numbers) (List·Memᴰ·head refl)
 no-split-only (some ends) list numbers f g = g ends
 
-pub no-ending-only : (o : Option ℕ) → OnlyUnder [] (10 ∷ []) (reply (orNoEnding o) [])
+pub no-ending-only : (o : Option NextShorter) → OnlyUnder [] (10 ∷ []) (reply (orNoEnding o) [])
 no-ending-only none = refused-only 10 [] (10 ∷ []) (List·Memᴰ·head refl)
-no-ending-only (some c) = gave-only (c ∷ []) [] [] (10 ∷ [])
+no-ending-only (some e) = gave-only _ [] [] (10 ∷ [])
 
 pub too-long-only : (bytes output : List ℕ) → OnlyUnder output (9 ∷ 5 ∷ []) (orTooLong bytes output)
 unfolding orTooLong

@@ -4,6 +4,7 @@ pub mod Finding
 pub mod Calls
 pub mod Answering
 pub mod Demand1
+pub mod AnyState
 pub mod Feeding
 pub mod Demand2
 pub mod Demand3

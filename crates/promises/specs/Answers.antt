@@ -14,6 +14,8 @@ use Rattle.promises.specs.declared.RadiusAnswer.{RadiusAnswer}
 use Rattle.promises.specs.declared.RadiusAnswer.the-variants.{Radius, Refused as RadiusRefused}
 use Rattle.promises.specs.declared.CentreAnswer.{CentreAnswer}
 use Rattle.promises.specs.declared.CentreAnswer.the-variants.{At, Refused as CentreRefused}
+use Rattle.promises.specs.declared.NextAnswer.{NextAnswer}
+use Rattle.promises.specs.declared.NextAnswer.the-variants.{Shorter, Refused as NextRefused}
 use Rattle.promises.specs.declared.SplitAnswer.{SplitAnswer}
 use Rattle.promises.specs.declared.SplitAnswer.the-variants.{Split, Refused as SplitRefused}
 use Rattle.promises.specs.declared.RecordAnswer.{RecordAnswer}
@@ -68,6 +70,11 @@ radiusSays (RadiusRefused number) = refused number
 abbrev pub centreSays : CentreAnswer → Said
 centreSays (At centre) = gave (centre .0 ∷ [])
 centreSays (CentreRefused number) = refused number
+
+-- the centre in half picks, then the length and the least period
+abbrev pub nextSays : NextAnswer → Said
+nextSays (Shorter centre length period) = gave (centre .0 ∷ length ∷ period ∷ [])
+nextSays (NextRefused number) = refused number
 
 -- the turn count
 abbrev pub splitSays : SplitAnswer → Said

@@ -5,14 +5,14 @@ use mathlib.Core.Logic.{_↔_, _≢_}
 use mathlib.Core.List.{List, [], _∷_, _++_, map, List·Memᴰ}
 use Prim.Native.Nat.{ℕ, _+_, _-_, _*_, _^_, _≤_}
 use lib.ListN.{length, take, drop}
-use Rattle.words.specs.Definitions.{mostSections, word, LongestEnding, Visits, Split, Named}
+use Rattle.words.specs.Definitions.{mostSections, From, word, centre, lengthAt, LongestEnding, nextLeading, Follows, Visits, Split, Named}
 use Rattle.words.specs.Computed.{rowWord, gatheredWord}
 use Rattle.models.specs.Stores.{at}
 use Rattle.promises.specs.declared.Draft.{Draft}
 use Rattle.promises.specs.declared.Started.{Started}
 use Rattle.promises.specs.declared.Fed.{Fed}
 use Rattle.promises.specs.declared.LiftAnswer.{LiftAnswer}
-use Rattle.promises.specs.Answers.{Said, gave, refused, refusedAt, Under, Reply, startSays, feedSays, liftSays}
+use Rattle.promises.specs.Answers.{Said, gave, refused, Under, Reply, startSays, feedSays, liftSays}
 use Rattle.promises.specs.Lifts.{lift}
 use Rattle.promises.specs.Book.{Book, Call, ask, split, longest, mask, next, fold, blank, lent, startTaken, feedTaken, bookOf}
 use Rattle.promises.specs.Listed.{First, NoneMet, recordLonger, noSplit, noEnding, listed, sought, lines, showLines, liftLines}
@@ -89,6 +89,18 @@ pub record Answered (b : Book) (call : Call) (r : Reply) : Type 0 where
 abbrev pub Demand1Run : List Made → Type 0
 Demand1Run ms = (xs ys : List Made) (m : Made) → ms ≡ xs ++ m ∷ ys → Answered (bookOf (calls xs)) (callOf m) (replyOf m)
 
+-- the next shorter ending after the one at c, whatever is stored, n as the count of picks: three values; "Length less period is always the
+-- length at the centre it gives"
+pub record NextRight (n c : ℕ) (said : Said) : Type 0 where
+  pub to : ℕ
+  pub len : ℕ
+  pub p : ℕ
+  pub says : said ≡ gave (to ∷ len ∷ p ∷ [])
+  pub own : len ≡ lengthAt n c
+  pub period : From 1 len p
+  pub less : len - p ≡ lengthAt n to
+  pub within : From (c + 1) (2 * n + 1) to
+
 -- show and its companion, on one input: 4, then 6, else the part
 pub record ShowRight (letters ends : List ℕ) (s : ℕ) (part : List ℕ) (number : ℕ) : Type 0 where
   pub refuses : (x : ℕ) → x ≢ 0 → (number ≡ x) ↔ First (showLines letters ends s) x
@@ -134,8 +146,8 @@ pub record MovedRight (u : List ℕ) (said : Said) : Type 0 where
   pub exactly : moved ≡ 2 * length u - L
 
 -- "Each accepted feed among them visited exactly the non-empty leading endings of its prefix, longest first, their lengths being the
--- first c entries of its visit list, c the count given": u is the row with the pick, m its length
-pub record VisitsRight (u before : List ℕ) (said : Said) (after : List ℕ) : Type 0 where
+-- first c entries of its visit list, c the count given": u is the row with the pick, m its length; state is what the feed left
+pub record VisitsRight (u before : List ℕ) (said : Said) (state : Draft) (after : List ℕ) : Type 0 where
   pub mask : ℕ
   pub c : ℕ
   pub says : said ≡ gave (mask ∷ c ∷ [])
@@ -144,6 +156,10 @@ pub record VisitsRight (u before : List ℕ) (said : Said) (after : List ℕ) : 
   pub some : 1 ≤ c
   pub few : 3 ^ (c - 1) ≤ length u * 2 ^ (c - 1)
   pub kept : drop c after ≡ drop c before
+  -- "after each accepted feed every visited length but the first is document 01's next shorter leading one, by the length and period this
+  -- call gives for the visit before": b after a, and the empty ending after the last visit
+  pub walked : (a b : ℕ) (r : Reply) → Follows a b (take c after ++ 0 ∷ []) → Reads state (next (centre (length u) a)) r
+      → (to len p : ℕ) × (r .said ≡ gave (to ∷ len ∷ p ∷ [])) × (len ≡ a) × (b ≡ nextLeading len p)
 
 pub record Demand3 (d : Draft) (ms : List Made) : Type 0 where
   pub splits : (i k : ℕ) (before : List ℕ) (r : Reply)
@@ -152,7 +168,7 @@ pub record Demand3 (d : Draft) (ms : List Made) : Type 0 where
   pub moved : (r : Reply) → Reads (last d ms) longest r → MovedRight (rowOf ms) (r .said)
   pub visits : (xs : List Made) (pick : ℕ) (before : List ℕ) (r : Fed) (after : List ℕ) → FeedAmong ms xs pick before r after
       → Accepted (feedSays (r .answer))
-      → VisitsRight (rowOf xs ++ pick ∷ []) before (feedSays (r .answer)) after
+      → VisitsRight (rowOf xs ++ pick ∷ []) before (feedSays (r .answer)) (r .state) after
   -- "A start or a feed is accepted exactly when the book takes it."
   pub starts : (xs ys : List Made) (K : ℕ) (r : Started) → ms ≡ xs ++ started K r ∷ ys → Accepted (startSays (r .answer)) ↔ (startTaken K ≡ true)
   pub feeds : (xs : List Made) (pick : ℕ) (before : List ℕ) (r : Fed) (after : List ℕ) → FeedAmong ms xs pick before r after
@@ -175,6 +191,9 @@ pub record WordsRight (d : Draft) (ms : List Made) : Type 0 where
 
 abbrev pub Demand1Holds : Type 0
 Demand1Holds = (d : Draft) (m : Made) → Meets d m → Demand1 d m
+
+abbrev pub NextHolds : Type 0
+NextHolds = (d : Draft) (c : ℕ) (r : Reply) → Reads d (next c) r → Accepted (r .said) → NextRight (d .n) c (r .said)
 
 abbrev pub OfEveryRun : (Draft → List Made → Type 0) → Type 0
 OfEveryRun P = (d : Draft) (K : ℕ) (r : Started) (ms : List Made) → Opened d K r ms → P d (started K r ∷ ms)

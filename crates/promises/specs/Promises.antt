@@ -8,6 +8,7 @@ use mathlib.Core.Option.{Option}
 use Prim.Native.Nat.{ℕ, _/_, _%_, _≤_}
 use lib.ListN.{length, drop}
 use Rattle.words.specs.Definitions.{mostVisits, word}
+use Rattle.words.specs.Computed.{NextShorter}
 use Rattle.models.specs.Core.{After, append}
 use Rattle.models.specs.Stores.{at}
 use Rattle.models.specs.Iterator.{longestOf, radiusOf}
@@ -66,7 +67,7 @@ pub record FeedPromise (d : Draft) (pick : ℕ) (before : List ℕ) (r : Fed) (a
 -- The calls that only read
 
 -- the next shorter ending by the stored radii and links
-abbrev pub nextHeld : Draft → (c : ℕ) → Option ℕ
+abbrev pub nextHeld : Draft → (c : ℕ) → Option NextShorter
 nextHeld d c = nextOf (d .radius) (d .next) (d .n) (longestOf (d .n) (d .longest .0)) c
 
 -- the split by the stored row words and radii

@@ -1,28 +1,24 @@
 -- What is found in a state that holds what stands in the book is what the book has: so the calls that only read meet their promise.
 use mathlib.Core.Path.{_≡_, refl, sym, ap, ap₂, _∙_}
-use mathlib.Core.List.{List, [], _∷_, _++_}
+use mathlib.Core.List.{List, [], _∷_}
 use mathlib.Core.Option.{Option, some}
-use Prim.Native.Nat.{ℕ, zero, suc, _+_, _-_, _*_, _/_, _≤_, _<_}
+use Prim.Native.Nat.{ℕ, zero, suc, _+_, _-_, _/_, _≤_}
 use native.Mathlib.Omega.{arith}
-use native.Mathlib.Decide.{decLt}
 use lib.ListN.{length}
-use Rattle.words.specs.Definitions.{word, stretch, centre, Ending, Sections, done, next}
-use Rattle.words.specs.Search.{both?}
-use Rattle.words.specs.Mirror.{ending?}
-use Rattle.words.specs.Computed.{rowWord, longestCentre, nextAfter, splitOf}
+use Rattle.words.specs.Definitions.{word, stretch, Sections, done, next}
+use Rattle.words.specs.Computed.{rowWord, longestCentre, splitOf}
 use Rattle.words.specs.Computed.{mask as maskOf}
-use Rattle.words.specs.Laws.{row-lt, next-after, next-missing}
+use Rattle.words.specs.Laws.{row-lt}
 use Rattle.words.specs.Splits.{Splitting, given, lacking, split-law}
 use Rattle.words.specs.Prefixes.{Agree, agree-back}
 use Rattle.models.specs.Stores.{at}
 use Rattle.models.specs.Scanning.{Radii}
 use Rattle.models.specs.Iterator.{longestOf}
 use Rattle.models.specs.Iterating.{in-range, longest-right, radius-right}
-use Rattle.models.specs.Answers.{nextOf, Endings, endings, next-promised}
+use Rattle.models.specs.Answers.{endings, next-right}
 use Rattle.models.specs.Splitting.{split-right as split-by-right}
 use Rattle.promises.specs.declared.Draft.{Draft}
 use Rattle.promises.specs.Answers.{Reply, reply}
-use Rattle.text.specs.Definitions.{decimal, lineEnd}
 use Rattle.layout.specs.Record.{laidOut, foldedOf, recordOf}
 use Rattle.promises.specs.Book.{Book, Query, ask, split, longest, mask, radius, fold, lent}
 use Rattle.promises.specs.Book.{next as nextAsked}
@@ -46,20 +42,6 @@ module _ {d : Draft} {b : Book} (h : Holds d b) where
 
   stored-centre : longestOf (length (b .row)) (d .longest .0) ≡ d .longest .0
   stored-centre = in-range radii
-
--- Next shorter ending
-
-next-found : {w : ℕ → ℕ} {n s : ℕ} {R N : List ℕ} → Endings w n s R N → (c : ℕ) → 0 < c → nextOf R N n (longestOf n s) c ≡ nextAfter w n c
-next-found {w} {n} {s} {R} {N} h c l = go (both? (decLt 0 (2 * n + 1 - c)) (ending? w n (2 * n + 1 - c)))
-  where
-    go : Dec ((0 < 2 * n + 1 - c) × Ending w n (2 * n + 1 - c)) → nextOf R N n (longestOf n s) c ≡ nextAfter w n c
-    go (yes a) =
-        let e : centre n (2 * n + 1 - c) ≡ c = omega (arith, a .0, a .1 .fits) in
-        next-promised R N n s c _ refl .meaning w h (2 * n + 1 - c) (a .0) (a .1) e ∙ sym (next-after w n c (2 * n + 1 - c) (a .0) (a .1) e)
-    go (no f) =
-        let g : (len : ℕ) → 0 < len → Ending w n len → centre n len ≡ c → ⊥ =
-        λ len x y z. let q : 2 * n + 1 - c ≡ len = omega (arith, y .fits) in f (rw q (x, y)) in
-        next-promised R N n s c _ refl .missing w h g ∙ sym (next-missing w n c g l)
 
 -- Split
 
@@ -119,9 +101,7 @@ module _ {d : Draft} {b : Book} (h : Holds d b) where
   found-same (radius c) z =
       let l = centre-fits (length (b .row)) (b .K) c z in
       rw (h .picks, stored-centre h) (ap (λ x. gives (x ∷ [])) (radius-right (radii h) c (l .0) (l .1)))
-  found-same (nextAsked c) z =
-      let l = centre-fits (length (b .row)) (b .K) c z in
-      rw (h .picks) (ap (λ o. reply (orNoEnding o) []) (next-found (endings (h .arrays .iterates)) c (l .0)))
+  found-same (nextAsked c) z = rw (h .picks) (ap (λ o. reply (orNoEnding o) []) (next-right (endings (h .arrays .iterates)) c))
   found-same (fold i k output) z =
       let l = record-fits (length (b .row)) (b .K) i k z in
       ap (λ o. recordReply (word (d .letters)) i o output) (split-held h k i (l .most) (l .prefix))

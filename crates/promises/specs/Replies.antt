@@ -7,7 +7,7 @@ use Prim.Native.Nat.{ℕ, zero, suc, _-_}
 use lib.Dec.{leb}
 use lib.ListN.{length, take, drop, getD}
 use Rattle.words.specs.Definitions.{word}
-use Rattle.words.specs.Computed.{longestCentre, nextAfter, radiusAt, visits, splitOf}
+use Rattle.words.specs.Computed.{longestCentre, NextShorter, nextAfter, radiusAt, visits, splitOf}
 use Rattle.words.specs.Computed.{mask as maskOf}
 use Rattle.layout.specs.Record.{recordOf}
 use Rattle.layout.specs.Layout.{total}
@@ -29,9 +29,10 @@ orNoSplit none list f = reply (refused 9) list
 orNoSplit (some ends) list f = f ends
 
 -- 10. "The centre belongs to no ending, or to the empty one, when the next shorter is sought."
-abbrev pub orNoEnding : Option ℕ → Said
+-- "besides the centre, the length and the least period of the ending it was given"
+abbrev pub orNoEnding : Option NextShorter → Said
 orNoEnding none = refused 10
-orNoEnding (some c) = gave (c ∷ [])
+orNoEnding (some e) = gave (e .centre ∷ e .length ∷ e .period ∷ [])
 
 -- 5. "Record longer than the lent output."
 unfoldable pub orTooLong : (bytes output : List ℕ) → Reply

@@ -4,7 +4,7 @@ use mathlib.Core.Logic.{_↔_}
 use mathlib.Core.List.{List, [], _∷_, _++_}
 use Prim.Native.Nat.{ℕ, _+_, _-_, _≤_, _<_}
 use lib.ListN.{length, getD}
-use Rattle.words.specs.Definitions.{word, prefix, centre, Joined, Ending, LongestEnding, NextEnding, LongestAt, Visits, Named, bit}
+use Rattle.words.specs.Definitions.{word, prefix, centre, Joined, LeastPeriod, Ending, LongestEnding, NextEnding, LongestAt, Visits, Named, bit}
 use Rattle.words.specs.Definitions.{radius as radiusOf}
 use Rattle.promises.specs.Answers.{gave, Reply, reply, filled}
 use Rattle.layout.specs.Record.{recordOf}
@@ -48,6 +48,8 @@ pub record RadiusSays (u : List ℕ) (c : ℕ) (r : Reply) : Type 0 where
   pub is : r ≡ reply (gave (radiusOf len ∷ [])) []
 
 -- "Centre of the next shorter ending after one given by its centre (any ending, leading or not; the one-pick ending leads to the empty one)"
+-- "besides the centre, the length and the least period of the ending it was given. Length less period is always the length at the centre it
+-- gives."
 pub record NextSays (u : List ℕ) (c : ℕ) (r : Reply) : Type 0 where
   pub len : ℕ
   pub some : 0 < len
@@ -55,7 +57,10 @@ pub record NextSays (u : List ℕ) (c : ℕ) (r : Reply) : Type 0 where
   pub at : centre (length u) len ≡ c
   pub shorter : ℕ
   pub next : NextEnding (word u) (length u) len shorter
-  pub is : r ≡ reply (gave (centre (length u) shorter ∷ [])) []
+  pub p : ℕ
+  pub period : LeastPeriod (word u) (length u) len p
+  pub less : len - p ≡ shorter
+  pub is : r ≡ reply (gave (centre (length u) shorter ∷ len ∷ p ∷ [])) []
 
 -- "Folded record of prefix i in k sections, by the split just named .. The answer is the record's count of bytes."
 pub record RecordSays (u : List ℕ) (i k : ℕ) (output : List ℕ) (r : Reply) : Type 0 where

@@ -66,9 +66,15 @@ pub enum RadiusAnswer {
     Refused(u8),
 }
 
-// The answer to the longest ending's centre, and to the next shorter ending's.
+// The answer to the longest ending's centre.
 pub enum CentreAnswer {
     At(Centre),
+    Refused(u8),
+}
+
+pub enum NextAnswer {
+    // The centre of the next shorter ending; the length and the least period of the ending given.
+    Shorter(Centre, usize, usize),
     Refused(u8),
 }
 

@@ -7,7 +7,7 @@ use Prim.Native.Nat.{ℕ, zero, suc, _+_, _-_, _*_, _/_, _%_, _^_, _<_}
 use native.Mathlib.Omega.{arith}
 use native.Mathlib.Decide.{decLe, decLt, ℕ-discrete}
 use lib.Bits.{bitOr}
-use Rattle.words.specs.Definitions.{Leading, LeadsFrom, Cubic, Rising, done, next, centre, radius, nextLeading, laterPlaces}
+use Rattle.words.specs.Definitions.{Leading, LeadsFrom, Cubic, Rising, done, next, centre, lengthAt, radius, nextLeading, laterPlaces}
 use Rattle.words.specs.Search.{map?, both?, implies?, all?, largest, smallest, passing}
 use Rattle.words.specs.Mirror.{ending?, mirrored?}
 use Rattle.words.specs.Periods.{period?}
@@ -62,15 +62,24 @@ unfoldable pub nextEnding : (ℕ → ℕ) → ℕ → ℕ → ℕ
 unfolding largest ending?
 nextEnding w n len = largest (ending? w n) len
 
--- the centre of the next shorter ending after the one with centre c, which has length 2n + 1 - c
-unfoldable pub nextCentre : (ℕ → ℕ) → ℕ → ℕ → ℕ
-unfolding nextEnding
-nextCentre w n c = centre n (nextEnding w n (2 * n + 1 - c))
+-- the centre of the next shorter ending after one, and that one's own length and least period
+pub record NextShorter : Type 0 where
+  pub centre : ℕ
+  pub length : ℕ
+  pub period : ℕ
+
+abbrev pub nextShorter : (centre length period : ℕ) → NextShorter
+nextShorter c len p = record { centre = c; length = len; period = p }
+
+-- after the one of length len
+unfoldable pub shorterAfter : (ℕ → ℕ) → ℕ → ℕ → NextShorter
+unfolding nextEnding leastPeriod
+shorterAfter w n len = nextShorter (centre n (nextEnding w n len)) len (leastPeriod w n len)
 
 -- the same, if an ending that is not empty has the centre c
-unfoldable pub nextAfter : (ℕ → ℕ) → ℕ → ℕ → Option ℕ
-unfolding both? decLt ending? nextCentre
-nextAfter w n c = elim (both? (decLt 0 (2 * n + 1 - c)) (ending? w n (2 * n + 1 - c))) [ yes h ↦ some (nextCentre w n c) | no f ↦ none ]
+unfoldable pub nextAfter : (ℕ → ℕ) → ℕ → ℕ → Option NextShorter
+unfolding both? decLt ending? shorterAfter
+nextAfter w n c = elim (both? (decLt 0 (lengthAt n c)) (ending? w n (lengthAt n c))) [ yes h ↦ some (shorterAfter w n (lengthAt n c)) | no f ↦ none ]
 
 -- the radius of the longest mirrored stretch at centre c of the first n letters
 unfoldable pub radiusAt : (ℕ → ℕ) → ℕ → ℕ → ℕ

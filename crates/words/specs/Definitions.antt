@@ -93,6 +93,10 @@ LeastPeriod w n len p = Smallest (Period w n len) p
 abbrev pub centre : ℕ → ℕ → ℕ
 centre e len = (e + 1 - len) + e
 
+-- the length of the ending of n picks with the centre c: "The longest ending has centre 2n - L + 1"
+abbrev pub lengthAt : ℕ → ℕ → ℕ
+lengthAt n c = 2 * n + 1 - c
+
 -- "Radius is half the length, rounded down"
 abbrev pub radius : ℕ → ℕ
 radius len = len / 2
@@ -149,6 +153,11 @@ laterPlaces len p = (len - nextLeading len p - p) / p
 pub data Falling : List ℕ → Type 0 where
   empty : Falling []
   above : {a : ℕ} {s : List ℕ} → ((b : ℕ) → List·Memᴰ b s → b < a) → Falling s → Falling (a ∷ s)
+
+-- b comes right after a in the list
+pub data Follows : (a b : ℕ) → List ℕ → Type 0 where
+  first : {a b : ℕ} {s : List ℕ} → Follows a b (a ∷ b ∷ s)
+  later : {a b x : ℕ} {s : List ℕ} → Follows a b s → Follows a b (x ∷ s)
 
 -- "the pick's visits": exactly the non-empty leading endings of the prefix, longest first
 pub record Visits (w : ℕ → ℕ) (n : ℕ) (vs : List ℕ) : Type 0 where

@@ -1,16 +1,16 @@
 -- The laws of the executable forms, in the order of Computed.antt: each means what Definitions.antt says.
 use mathlib.Core.Path.{_≡_, refl, sym, ap, _∙_}
 use mathlib.Core.Logic.{_↔_}
-use mathlib.Core.Option.{some, none}
+use mathlib.Core.Option.{Option, some, none}
 use Prim.Native.Nat.{ℕ, zero, suc, _+_, _-_, _*_, _/_, _%_, _^_, _≤_, _<_}
 use native.Mathlib.Omega.{arith}
 use native.Mathlib.Nat.{div-div-eq-div-mul, pow-succ'}
 use native.Mathlib.Decide.{decLt, ℕ-discrete}
-use Rattle.words.specs.Definitions.{prefix, Joined, LeastPeriod, Ending, LongestEnding, NextEnding, Mirrored, LongestAt, centre, radius, LeadsFrom, LastLead, Visits, bit}
+use Rattle.words.specs.Definitions.{prefix, Joined, LeastPeriod, Ending, LongestEnding, NextEnding, Mirrored, LongestAt, centre, lengthAt, radius, Leading, LeadsFrom, LastLead, Visits, bit}
 use Rattle.words.specs.Search.{both?, largest, largest-is, smallest-is, passing-is}
 use Rattle.words.specs.Mirror.{empty-ending, single-ending, ending?, mirrored?}
 use Rattle.words.specs.Periods.{whole-period, period?}
-use Rattle.words.specs.Computed.{leading?, leadsFrom?, leastPeriod, longest, longestCentre, moved, nextEnding, nextCentre, nextAfter, radiusAt, visits, splits, bits, rowWord, mask}
+use Rattle.words.specs.Computed.{leading?, leadsFrom?, leastPeriod, longest, longestCentre, moved, nextEnding, NextShorter, shorterAfter, nextAfter, radiusAt, visits, splits, bits, rowWord, mask}
 use Rattle.words.specs.Splits.{given, lacking, split-law, joined-split, split-joined, cut, no-picks, splits-one, splits-zero, splits-small}
 use Rattle.words.specs.Bits.{bits-at, bits-past, bits-lt}
 
@@ -39,32 +39,26 @@ module _ (w : ℕ → ℕ) (n : ℕ) where
   unfolding nextEnding
   next-ending len h = largest-is (ending? w n) len 0 (empty-ending w n) h
 
-  -- the ending with centre c has length 2n + 1 - c
-  pub next-centre : (c len : ℕ) → centre n len ≡ c → len ≤ n → nextCentre w n c ≡ centre n (nextEnding w n len)
-  unfolding nextCentre
-  next-centre c len e l = let z : 2 * n + 1 - c ≡ len = omega arith in rw z
+  -- what `nextAfter` gives: what is told of the ending that is not empty and has the centre c, or none where there is none
+  pub data NextAfter (c : ℕ) (o : Option NextShorter) : Type 0 where
+    there : (len : ℕ) → o ≡ some (shorterAfter w n len) → 0 < len → Ending w n len → centre n len ≡ c → NextAfter c o
+    nowhere : o ≡ none → ((len : ℕ) → 0 < len → Ending w n len → centre n len ≡ c → ⊥) → NextAfter c o
+
+  pub next-law : (c : ℕ) → NextAfter c (nextAfter w n c)
+  unfolding nextAfter
+  next-law c = go (both? (decLt 0 (lengthAt n c)) (ending? w n (lengthAt n c))) refl
+    where
+      go : (d : Dec ((0 < lengthAt n c) × Ending w n (lengthAt n c))) → both? (decLt 0 (lengthAt n c)) (ending? w n (lengthAt n c)) ≡ d
+          → NextAfter c (nextAfter w n c)
+      go (yes a) q = there (lengthAt n c) (rw (q, nextAfter)) (a .0) (a .1) (omega (arith, a .0, a .1 .fits))
+      go (no f) q = nowhere (rw (q, nextAfter)) (λ len x y z. let e : lengthAt n c ≡ len = omega (arith, y .fits) in f (rw e (x, y)))
 
   -- after an ending that is not empty comes the next shorter one; "the one-pick ending leads to the empty one"
-  pub next-after : (c len : ℕ) → 0 < len → Ending w n len → centre n len ≡ c → nextAfter w n c ≡ some (nextCentre w n c)
-  unfolding nextAfter
-  next-after c len l h e = go (both? (decLt 0 (2 * n + 1 - c)) (ending? w n (2 * n + 1 - c))) refl
-    where
-      len-is : 2 * n + 1 - c ≡ len
-      len-is = omega (arith, h .fits)
-
-      go : (d : Dec ((0 < 2 * n + 1 - c) × Ending w n (2 * n + 1 - c))) → both? (decLt 0 (2 * n + 1 - c)) (ending? w n (2 * n + 1 - c)) ≡ d
-          → nextAfter w n c ≡ some (nextCentre w n c)
-      go (yes a) q = rw (q, nextAfter)
-      go (no f) q = absurd (f (rw len-is (l, h)))
-
-  pub next-missing : (c : ℕ) → ((len : ℕ) → 0 < len → Ending w n len → centre n len ≡ c → ⊥) → 0 < c → nextAfter w n c ≡ none
-  unfolding nextAfter
-  next-missing c f l = go (both? (decLt 0 (2 * n + 1 - c)) (ending? w n (2 * n + 1 - c))) refl
-    where
-      go : (d : Dec ((0 < 2 * n + 1 - c) × Ending w n (2 * n + 1 - c))) → both? (decLt 0 (2 * n + 1 - c)) (ending? w n (2 * n + 1 - c)) ≡ d
-          → nextAfter w n c ≡ none
-      go (no g) q = rw (q, nextAfter)
-      go (yes a) q = absurd (f (2 * n + 1 - c) (a .0) (a .1) (omega (arith, a .0, a .1 .fits)))
+  pub next-after : (c len : ℕ) → 0 < len → Ending w n len → centre n len ≡ c → nextAfter w n c ≡ some (shorterAfter w n len)
+  next-after c len l h e = elim (next-law c) [
+    | there k q x y z ↦ q ∙ ap (λ x. some (shorterAfter w n x)) (omega (arith, y .fits, h .fits))
+    | nowhere q f ↦ absurd (f len l h e)
+  ]
 
   -- "a centre from 1 to 2n+1": there is a mirrored stretch, of one pick or of none
   at-centre : (c : ℕ) → 0 < c → c ≤ 2 * n + 1 → (len : ℕ) × (len ≤ n) × Mirrored w n c len
@@ -131,11 +125,12 @@ row-empty (suc K) w = omega (arith, row-empty K w, splits-zero w 0 (suc K) (λ e
 
 -- Gathered values: Proposition3.gathered-is; here the stretch by which a place gathers
 
--- at its own end a place has the empty stretch, which leads
+-- the empty ending leads, so at its own end a place has a stretch that does
+pub empty-leads : (w : ℕ → ℕ) (n : ℕ) → Leading w n 0
+empty-leads w n = record { is = empty-ending w n; leads = λ k p e l q. omega (arith, q .pos) }
+
 pub leads-own : (w : ℕ → ℕ) (i : ℕ) → LeadsFrom w i i
-leads-own w i =
-    let z : i - i ≡ 0 = omega arith in
-    record { from = omega arith; is = rw z (record { is = empty-ending w i; leads = λ k p e l q. omega (arith, q .pos) }) }
+leads-own w i = let z : i - i ≡ 0 = omega arith in record { from = omega arith; is = rw z (empty-leads w i) }
 
 pub last-lead : (w : ℕ → ℕ) (n i : ℕ) → i ≤ n → LastLead w n i (largest (leadsFrom? w i) (suc n))
 last-lead w n i h = largest-is (leadsFrom? w i) (suc n) i (leads-own w i) (omega arith)

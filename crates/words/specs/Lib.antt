@@ -9,6 +9,7 @@ pub mod Periods
 pub mod Lengths
 pub mod Series
 pub mod FewVisits
+pub mod Visiting
 pub mod Proposition3
 pub mod Gathering
 pub mod Bits

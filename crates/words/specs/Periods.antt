@@ -6,7 +6,7 @@ use native.Mathlib.Nat.{div-add-mod', mod-lt}
 use native.Mathlib.Decide.{decLe, decLt, ℕ-discrete}
 use lib.ListN.{getD}
 use lib.Seq.{ext-getD}
-use Rattle.words.specs.Definitions.{stretch, Period, LeastPeriod, Ending}
+use Rattle.words.specs.Definitions.{stretch, Period, LeastPeriod, Ending, NextEnding}
 use Rattle.words.specs.Search.{map?, both?, all?}
 use Rattle.words.specs.Mirror.{stretch-length, stretch-at, mirror, ending}
 
@@ -43,6 +43,16 @@ module _ {w : ℕ → ℕ} {n : ℕ} where
 
   pub period-ending : {len k p : ℕ} → Ending w n len → Period w n len p → k + p ≡ len → Ending w n k
   period-ending {p = p} e f s = ending (omega (arith, e .fits)) (λ i j c. sym (f .same (i - p) i (omega arith)) ∙ mirror e (i - p) j (omega arith))
+
+  -- so the least period is what the next shorter ending lacks
+  pub next-period : {len k : ℕ} → Ending w n len → NextEnding w n len k → LeastPeriod w n len (len - k)
+  next-period {len} e h = record {
+    is = ending-period e (h .is) (omega (arith, h .below)) (omega (arith, h .below));
+    least = λ q b. elim (decLe len q) [
+      | yes y ↦ omega arith
+      | no y ↦ omega (arith, h .most (len - q) (period-ending e b (omega arith)) (omega (arith, b .pos)))
+    ];
+  }
 
   pub shorter : {len k p : ℕ} → Period w n len p → k ≤ len → Period w n k p
   shorter h l = record { fits = omega (arith, h .fits); pos = h .pos; same = λ i j c. h .same i j (omega arith) }

@@ -1,6 +1,7 @@
-//! The calls that ask for a mask, a radius or a centre.
+//! The calls that ask for a mask, a radius, a centre or an ending.
 
 use super::{Answer, State, NO_ENDING_THERE};
+pub use crate::plain::NextEnding;
 
 /// "Mask of prefix i."
 pub fn mask_of_prefix(state: &State, i: usize) -> Answer<u8> {
@@ -23,11 +24,12 @@ pub fn longest_centre(state: &State) -> Answer<usize> {
 }
 
 /// "Centre of the next shorter ending after one given by its centre (any ending,
-/// leading or not; the one-pick ending leads to the empty one)."
-pub fn next_centre(state: &State, centre: usize) -> Answer<usize> {
+/// leading or not; the one-pick ending leads to the empty one)." It "gives, besides the
+/// centre, the length and the least period of the ending it was given".
+pub fn next_ending(state: &State, centre: usize) -> Answer<NextEnding> {
     state.check()?;
     state.check_centre(centre)?;
     state
-        .ask(|fast| fast.next_centre(state.n, centre))
+        .ask(|fast| fast.next_ending(state.n, centre))
         .ok_or(NO_ENDING_THERE)
 }

@@ -1,6 +1,8 @@
 //! Questions asked by centre, in half picks, after n picks.
 
+use super::periods::least_period;
 use super::Fast;
+use crate::plain::NextEnding;
 
 impl Fast {
     /// Radius of the longest mirrored stretch at a centre from 1 to 2n+1. Without
@@ -21,15 +23,20 @@ impl Fast {
         2 * n - self.longest(n) + 1
     }
 
-    /// Centre of the next shorter ending after the one at the given centre; none
-    /// when the centre belongs to no ending, or to the empty one.
-    pub fn next_centre(&self, n: usize, at: usize) -> Option<usize> {
+    /// Centre of the next shorter ending after the one at the given centre, and that
+    /// one's length and least period; none when the centre belongs to no ending, or to
+    /// the empty one.
+    pub fn next_ending(&self, n: usize, at: usize) -> Option<NextEnding> {
         let length = (2 * n + 1).checked_sub(at)?;
         let before = n.checked_sub(length)?;
         if !self.mirrored.is_mirrored(before, n) {
             return None;
         }
         let shorter = (before + 1..=n).find(|&cut| self.mirrored.is_mirrored(cut, n));
-        shorter.map(|cut| n + cut + 1)
+        shorter.map(|cut| NextEnding {
+            centre: n + cut + 1,
+            length,
+            period: least_period(&self.letters[before..n]),
+        })
     }
 }

@@ -13,6 +13,12 @@ pub fn least_periods_of_suffixes(letters: &[u8]) -> Vec<usize> {
         .collect()
 }
 
+/// The least period of a non-empty stretch: its length less its longest border.
+pub fn least_period(stretch: &[u8]) -> usize {
+    let borders = longest_borders(stretch);
+    stretch.len() - borders[stretch.len() - 1]
+}
+
 /// For each non-empty prefix of the text, by length from 1, the length of the
 /// longest shorter prefix that also closes it.
 fn longest_borders(text: &[u8]) -> Vec<usize> {

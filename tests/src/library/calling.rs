@@ -2,7 +2,7 @@
 
 use super::board::Board;
 use super::running::Lent;
-use crate::calls::{Answer, Taken};
+use crate::calls::{Answer, NextEnding, Taken};
 use crate::scripted::{Call, Reply, VALUES};
 use crate::VISIT_ROOM;
 
@@ -89,10 +89,17 @@ impl Board {
         self.value(Call::Radius { centre })
     }
 
-    /// Centre of the next shorter ending after the one at the given centre.
-    pub fn next_centre(&mut self, centre: usize) -> Answer<usize> {
+    /// Centre of the next shorter ending after the one at the given centre, and that
+    /// one's length and least period.
+    pub fn next_ending(&mut self, centre: usize) -> Answer<NextEnding> {
         let centre = short(centre);
-        self.value(Call::NextCentre { centre })
+        let call = Call::NextEnding { centre };
+        let [centre, length, period] = self.make(call, &mut [], &mut [])?;
+        Ok(NextEnding {
+            centre,
+            length,
+            period,
+        })
     }
 
     /// The one value of a call that is lent nothing.

@@ -66,7 +66,9 @@ impl Asked {
             }
             Asked::Radius { centre } => calls::radius_at(state, centre).map(one),
             Asked::Longest => calls::longest_centre(state).map(one),
-            Asked::Next { centre } => calls::next_centre(state, centre).map(one),
+            Asked::Next { centre } => {
+                calls::next_ending(state, centre).map(|next| next.values().to_vec())
+            }
             Asked::Split { prefix, k, .. } => {
                 calls::split(state, prefix, k, lent.entries_mut()).map(one)
             }
@@ -81,7 +83,23 @@ impl Asked {
         match self {
             Asked::Start { .. } => 0,
             Asked::Feed { .. } => 2,
+            Asked::Next { .. } => 3,
             _ => 1,
+        }
+    }
+
+    /// Whether the accepted call can give these values on a stored state with this n. The
+    /// ending at a centre has its length by that centre, and "length less period is always
+    /// the length at the centre it gives".
+    pub fn can_give(self, values: &[usize], n: usize) -> bool {
+        let length_at = |centre| (2 * n + 1).checked_sub(centre);
+        match (self, values) {
+            (Asked::Next { centre }, &[next, length, period]) => {
+                length_at(centre) == Some(length)
+                    && (1..=length).contains(&period)
+                    && length_at(next) == Some(length - period)
+            }
+            _ => values.len() == self.values(),
         }
     }
 
@@ -116,7 +134,7 @@ impl Asked {
                 centre: pair(centre),
             },
             Asked::Longest => Call::LongestCentre,
-            Asked::Next { centre } => Call::NextCentre {
+            Asked::Next { centre } => Call::NextEnding {
                 centre: pair(centre),
             },
             Asked::Split { prefix, k, entries } => Call::Split {

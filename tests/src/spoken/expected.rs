@@ -19,9 +19,9 @@ pub enum Expected {
     Help,
     /// `ok` and so many numbers, which are not known.
     Values(usize),
-    /// That of a call which meets no listed refusal, on a state that no run made; with
-    /// `--all` or not.
-    Possible { asked: Asked, all: bool },
+    /// That of a call which meets no listed refusal, on a state with this n that no run
+    /// made; with `--all` or not.
+    Possible { asked: Asked, n: usize, all: bool },
 }
 
 impl Expected {
@@ -32,7 +32,7 @@ impl Expected {
             Expected::Unknown => answer.len() > 8 && answer.starts_with("unknown "),
             Expected::Help => answer.starts_with("ok ") && has_all_words(answer),
             Expected::Values(count) => values(answer).is_some_and(|values| values.len() == *count),
-            Expected::Possible { asked, all } => is_possible(answer, *asked, *all),
+            Expected::Possible { asked, n, all } => is_possible(answer, *asked, *n, *all),
         }
     }
 }
@@ -75,9 +75,9 @@ fn values(answer: &str) -> Option<Vec<usize>> {
 }
 
 /// Whether the call can answer so on a state that no run made: refused "by what it
-/// finds", with all as it was lent; or accepted, with as many values as it has, and with
+/// finds", with all as it was lent; or accepted, with values that it can give, and with
 /// entries and bytes past those given as they were lent.
-fn is_possible(answer: &str, asked: Asked, all: bool) -> bool {
+fn is_possible(answer: &str, asked: Asked, n: usize, all: bool) -> bool {
     let (head, tail) = match answer.split_once(" |") {
         Some((head, tail)) => (head, tail),
         None => (answer, ""),
@@ -87,7 +87,7 @@ fn is_possible(answer: &str, asked: Asked, all: bool) -> bool {
         let mut numbers = found(asked.scripted()).iter();
         return numbers.any(|&number| answer == line(&Err(number), asked, &untouched, all));
     };
-    let fits = values.len() == asked.values() && asked.given(&values) <= untouched.size();
+    let fits = asked.can_give(&values, n) && asked.given(&values) <= untouched.size();
     let after = fits.then(|| after(tail, asked.given(&values), untouched));
     after
         .flatten()

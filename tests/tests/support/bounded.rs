@@ -1,12 +1,16 @@
 //! A call on any stored state: what must hold of it there.
 
+#[path = "told.rs"]
+mod told;
+
 use comparison::beside::{BYTE, ENTRY};
 use comparison::calls::Refusal;
 use comparison::library::Board;
 use comparison::listed::{found, listed};
-use comparison::scripted::{Call, Reply};
+use comparison::scripted::{Call, Reply, VALUES};
 use comparison::VISIT_ROOM;
 use std::fmt::Display;
+pub use told::is_told;
 
 /// Makes a call on any stored state. "There 1 to 4 and 8 still hold, and beyond them
 /// the call need only end within bounds." A refusal keeps every byte, and so does a
@@ -20,7 +24,8 @@ pub fn make_within_bounds(board: &mut Board, call: Call, step: impl Display) -> 
     let mut list = vec![ENTRY; call.entries()];
     let mut output = vec![BYTE; call.output_bytes()];
     let reply = board.make(call, &mut list, &mut output);
-    assert!(is_possible(reply, number, call), "{reply:?}, {}", case());
+    let possible = is_possible(reply, number, call, n);
+    assert!(possible, "{reply:?}, {}", case());
     if let Some(before) = before {
         assert!(*board == before, "a byte of the state changed, {}", case());
     }
@@ -37,15 +42,24 @@ pub fn make_within_bounds(board: &mut Board, call: Call, step: impl Display) -> 
     reply.err()
 }
 
-/// Whether a call can reply so: with the listed number; where none is listed, it is
-/// accepted, or refused by what it finds. A second value is a count of visits, 19 at
-/// most.
-fn is_possible(reply: Reply, number: Option<Refusal>, call: Call) -> bool {
+/// Whether a call can reply so on a state of n picks: with the listed number; where none
+/// is listed, it is accepted, or refused by what it finds.
+fn is_possible(reply: Reply, number: Option<Refusal>, call: Call, n: usize) -> bool {
     match (reply, number) {
         (Err(given), Some(number)) => given == number,
         (Ok(_), Some(_)) => false,
         (Err(given), None) => found(call).contains(&given),
-        (Ok([_, visits, _]), None) => visits <= VISIT_ROOM,
+        (Ok(values), None) => are_possible(values, call, n),
+    }
+}
+
+/// Whether an accepted call can give these values: a count of visits is 19 at most, what
+/// is told of an ending is as it always is, and there is no value more.
+fn are_possible(values: [usize; VALUES], call: Call, n: usize) -> bool {
+    match (call, values) {
+        (Call::NextEnding { centre }, _) => is_told(values, usize::from(centre), n),
+        (Call::Feed { .. }, [_, visits, 0]) => visits <= VISIT_ROOM,
+        (_, [_, second, third]) => [second, third] == [0, 0],
     }
 }
 

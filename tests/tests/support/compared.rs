@@ -1,5 +1,7 @@
 //! The library's board beside the comparison program's tables.
 
+#[path = "visited.rs"]
+mod visited;
 #[path = "words.rs"]
 mod words;
 
@@ -8,6 +10,7 @@ use comparison::calls::Taken;
 use comparison::fast::Fast;
 use comparison::library::Board;
 use comparison::scripted::{given, Call};
+use visited::assert_visits_lead_on;
 pub use words::compare_words;
 
 /// Entries of the visit list, more than the visits there can be.
@@ -15,7 +18,7 @@ const ENTRIES: usize = 24;
 
 /// Feeds a pick and compares the answer, the visit list and the centre of the longest
 /// ending with the tables of a draft that opens with these picks. Entries past the
-/// visits keep theirs.
+/// visits keep theirs. The visits lead on by what the board tells of each.
 pub fn feed_compared(board: &mut Board, fast: &Fast, pick: u8, name: &str) {
     let m = board.n() + 1;
     let visits = fast.visits(m);
@@ -34,6 +37,7 @@ pub fn feed_compared(board: &mut Board, fast: &Fast, pick: u8, name: &str) {
     assert_eq!(board.n(), m, "{name}, stored n");
     let longest = Ok(fast.longest_centre(m));
     assert_eq!(board.longest_centre(), longest, "{name}, longest at {m}");
+    assert_visits_lead_on(board, &list[..expected.visits], name);
 }
 
 /// Compares all that is kept after n picks: the letters, the longest ending's centre,
@@ -62,19 +66,19 @@ fn compare_masks(board: &mut Board, fast: &Fast, name: &str) {
     }
 }
 
-/// Every radius and next ending.
+/// Every radius, and every next ending with length and period.
 fn compare_centres(board: &mut Board, fast: &Fast, name: &str) {
     let n = board.n();
     let centres = 1..=2 * n as u16 + 1;
     let calls: Vec<Call> = centres
-        .flat_map(|centre| [Call::Radius { centre }, Call::NextCentre { centre }])
+        .flat_map(|centre| [Call::Radius { centre }, Call::NextEnding { centre }])
         .collect();
     for (at, pair) in board.ask(&calls).chunks(2).enumerate() {
         let centre = at + 1;
         let radius = given([fast.radius(n, centre)]);
         assert_eq!(pair[0], radius, "{name}, radius at {centre}");
-        let next = fast.next_centre(n, centre).ok_or(10);
-        let next = next.and_then(|centre| given([centre]));
+        let next = fast.next_ending(n, centre).ok_or(10);
+        let next = next.and_then(|next| given(next.values()));
         assert_eq!(pair[1], next, "{name}, next at {centre}");
     }
 }

@@ -20,7 +20,7 @@ pub fn some_call(generator: &mut Generator, n: usize) -> Call {
         18..=19 => Call::Radius {
             centre: some_centre(generator, n),
         },
-        20..=21 => Call::NextCentre {
+        20..=21 => Call::NextEnding {
             centre: some_centre(generator, n),
         },
         _ => Call::Record {

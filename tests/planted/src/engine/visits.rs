@@ -1,19 +1,17 @@
 //! Section 4, append, lines 3 to 9: the walk over the leading endings.
 
-use crate::cells::{at_centre, at_place, store, store_at_place, ByCentre, Centre, Place, Places};
+use crate::cells::{at_place, store, store_at_place, ByCentre, Centre, Place, Places};
 use crate::cells::{GATHERED, ROWS};
+use crate::iterator::reading::period_at;
 
 /// The centre of the ending of len picks, of n.
 fn centre_of(n: usize, len: usize) -> Centre {
     Centre((n + 1).saturating_sub(len) + n)
 }
 
-/// The least period of the ending of length len: the next centre less its own, brought
-/// into 1 to len.
+/// The least period of the ending of length len.
 fn period_of(next: &ByCentre, n: usize, len: usize) -> usize {
-    let c = centre_of(n, len);
-    let after = at_centre(next, c);
-    after.saturating_sub(c.0).min(len).max(1)
+    period_at(next, centre_of(n, len), len)
 }
 
 /// The gathered word of the place before a leading ending, and the length of the next.

@@ -26,16 +26,38 @@ fn is_ending(radius: &ByCentre, held: Numbers, c: Centre) -> bool {
     radius_at(radius, held, c) == n.saturating_sub(c.0 / 2)
 }
 
-/// The centre of the next shorter ending after the one at c; none where c belongs to no
-/// ending or to the empty one.
+/// The least period of the ending of len picks at c: the next ending's centre less c,
+/// brought into 1 to len.
+pub fn period_at(next: &ByCentre, c: Centre, len: usize) -> usize {
+    let after = at_centre(next, c);
+    after.saturating_sub(c.0).min(len).max(1)
+}
+
+/// Of an ending the centre of the next shorter one, its own length and its own least
+/// period.
+pub struct Shorter {
+    pub centre: Centre,
+    pub length: usize,
+    pub period: usize,
+}
+
+/// The next shorter ending after the one at c; none where c belongs to no ending or to
+/// the empty one.
 pub fn next_shorter(
     radius: &ByCentre,
     next: &ByCentre,
     held: Numbers,
     c: Centre,
-) -> Option<Centre> {
+) -> Option<Shorter> {
     if is_ending(radius, held, c) {
-        return Some(Centre(at_centre(next, c)));
+        let length = 2 * held.n + 1 - c.0;
+        let period = period_at(next, c, length);
+        let centre = Centre(c.0 + period);
+        return Some(Shorter {
+            centre,
+            length,
+            period,
+        });
     }
     None
 }

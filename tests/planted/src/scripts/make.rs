@@ -1,7 +1,7 @@
 //! One call, by its number.
 
 use super::request::Request;
-use super::told::{nothing_told, taken_told, value_told, Told};
+use super::told::{next_told, nothing_told, taken_told, value_told, Told};
 use crate::calls::feed::feed;
 use crate::calls::fold::fold;
 use crate::calls::longest::longest;
@@ -86,8 +86,8 @@ fn radius_on(state: &State, q: Request) -> Turn {
 /// The next shorter ending after centre x.
 fn next_on(state: &State, q: Request) -> Turn {
     let (radius, links) = (&state.centres[RADIUS], &state.centres[NEXT]);
-    let centre = next(radius, links, state.numbers, Centre(q.x));
-    plain(value_told(centre.map(|c| c.0)))
+    let shorter = next(radius, links, state.numbers, Centre(q.x));
+    plain(next_told(shorter))
 }
 
 /// Makes the call of a request; lists and bytes are what is left to lend. None where

@@ -2,6 +2,7 @@
 //! and zeros.
 
 use crate::calls::feed::Taken;
+use crate::iterator::reading::Shorter;
 use crate::state::Answer;
 
 /// The numbers of an answer.
@@ -27,5 +28,12 @@ pub fn value_told(answer: Answer<usize>) -> Told {
 pub fn taken_told(answer: Answer<Taken>) -> Told {
     answer.map_or_else(refused, |taken| {
         [0, usize::from(taken.mask), taken.count, 0]
+    })
+}
+
+/// The answer to the next shorter ending.
+pub fn next_told(answer: Answer<Shorter>) -> Told {
+    answer.map_or_else(refused, |shorter| {
+        [0, shorter.centre.0, shorter.length, shorter.period]
     })
 }

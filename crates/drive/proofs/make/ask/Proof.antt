@@ -2,7 +2,7 @@ use borrow.Author.Needs.{needs}
 use mathlib.Core.Path.{_≡_, refl}
 use mathlib.Core.List.{[]}
 use native.Mathlib.Omega.{arith}
-use Rattle.promises.specs.Answers.{reply, splitSays, centreSays, maskSays, radiusSays, recordSays}
+use Rattle.promises.specs.Answers.{reply, splitSays, centreSays, maskSays, radiusSays, nextSays, recordSays}
 use Rattle.promises.specs.Book.{split, longest, mask, radius, next, fold}
 use Rattle.drive.specs.Script.{callOn, sourceOf, sourceAt}
 use Rattle.drive.specs.Requests.{above}
@@ -67,7 +67,7 @@ returns-5 c input =
     let a = s .args in
     let l = s .pre .1 in
     rw (t .match .keys5)
-    (query-makes (next (a .q .x)) (reply (centreSays (r .next .result)) []) (r .next .ensures _ refl (refl, refl)) (c .centre-told2 .ensures)
+    (query-makes (next (a .q .x)) (reply (nextSays (r .next .result)) []) (r .next .ensures _ refl (refl, refl)) (c .next-told .ensures)
     (none-left (a .list .now) (rw (t .match .keys5) at (l .entries))) (none-left (a .output .now) (rw (t .match .keys5) at (l .bytes))))
 
 returns-6 : tie.Need-returns-6
