@@ -138,7 +138,7 @@ struct board_next_answer {
 };
 struct board_split_answer {
     size_t number;
-    size_t turns;
+    size_t turns; // how many of the sections have two or more picks
 };
 struct board_record_answer {
     size_t number;
@@ -295,7 +295,8 @@ static inline struct board_next_answer board_next(struct board *board, struct bo
     return answer;
 }
 
-// Split a prefix into k sections: the last pick numbers of the sections fill the first k entries of the list.
+// Split a prefix into k sections: the last pick numbers of the sections fill the first k entries of the list. A section
+// of one pick makes no turn.
 static inline struct board_split_answer board_split(struct board *board, struct board_place prefix, size_t k,
                                                     uint16_t *ends, size_t entries) {
     struct board_reply reply = board_make(board, BOARD_SPLIT_CALL, k, prefix.picks, board_list(ends, entries));

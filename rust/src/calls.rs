@@ -178,7 +178,8 @@ impl Board {
     }
 
     /// Split a prefix into k sections: the number of the last pick of each, rising, fills the first
-    /// k entries of the list. Gives the turn count. Refused with 7, 1, 13, 4 or 9.
+    /// k entries of the list. Gives the turn count, which is how many sections have two or more
+    /// picks. Refused with 7, 1, 13, 4 or 9.
     ///
     /// ```
     /// # use board::{Board, Place, VISITS};
@@ -189,7 +190,7 @@ impl Board {
     /// # }
     /// // The draft is AAA.
     /// let mut ends = [0; 2];
-    /// assert_eq!(board.split(Place(3), 2, &mut ends), Ok(2));
+    /// assert_eq!(board.split(Place(3), 2, &mut ends), Ok(1));
     /// assert_eq!(ends, [1, 3]);
     /// assert_eq!(board.split(Place(1), 2, &mut ends).unwrap_err().number(), 9);
     /// # Ok::<(), board::Refusal>(())

@@ -11,11 +11,12 @@ mod ends;
 mod some_calls;
 
 use any_states::{any_number, any_state, spoiled_state, with_any_numbers};
-use bounded::{is_told, make_within_bounds};
-use comparison::library::Board;
+use bounded::{is_counted, is_told, make_within_bounds};
+use comparison::beside::{BYTE, ENTRY};
+use comparison::library::{Board, Lent};
 use comparison::samples::Generator;
 use comparison::scripted::Call;
-use comparison::MOST_PICKS;
+use comparison::{MOST_PICKS, MOST_SECTIONS};
 use ends::{each_step_ends, Step};
 use some_calls::some_call;
 use std::sync::mpsc::Sender;
@@ -104,6 +105,51 @@ fn every_ending_on_any_bytes() {
             told[1] += ask_every_ending(&mut spoiled, step);
         }
         assert!(told.iter().all(|&count| count > 40_000), "{told:?}");
+    });
+}
+
+/// Splits a prefix into each k from 1 to K. Gives in how many splits every section turns,
+/// and in how many some have one pick: each turn count is that of the ends given.
+fn split_into_each(board: &mut Board, prefix: u16, step: Step) -> [usize; 2] {
+    let entries = MOST_SECTIONS as u16;
+    let sections = 1..=board.most_sections() as u8;
+    let calls: Vec<Call> = sections
+        .map(|k| Call::Split { prefix, k, entries })
+        .collect();
+    let mut lent = Lent::to(&calls, ENTRY, BYTE);
+    let replies = board.run(&calls, &mut lent);
+    let mut counts = [0, 0];
+    for (at, list) in lent.lists.chunks(MOST_SECTIONS).enumerate() {
+        let (call, reply, k) = (calls[at], replies[at], at + 1);
+        let counted = is_counted(call, reply, &list[..k]);
+        assert!(counted, "{call:?}, {reply:?}, ends {list:?}, {step}");
+        if let Ok([turns, ..]) = reply {
+            counts[usize::from(turns < k)] += 1;
+        }
+    }
+    counts
+}
+
+/// Many splits of both kinds must be among them, on any bytes and on spoiled drafts.
+#[test]
+fn turn_counts_on_any_bytes() {
+    each_step_ends(|steps| {
+        let mut counts = [[0, 0], [0, 0]];
+        for seed in 42_000..42_800 {
+            let generator = &mut Generator(seed);
+            let states = [any_state(generator), spoiled_state(generator)];
+            for (mut state, counts) in states.into_iter().zip(&mut counts) {
+                for number in 0..12 {
+                    let step = Step { seed, number };
+                    steps.send(step).expect("the test waits");
+                    let prefix = generator.below(state.n() + 1) as u16;
+                    let more = split_into_each(&mut state, prefix, step);
+                    *counts = [counts[0] + more[0], counts[1] + more[1]];
+                }
+            }
+        }
+        let often = counts.iter().flatten().all(|&count| count > 600);
+        assert!(often, "{counts:?}");
     });
 }
 

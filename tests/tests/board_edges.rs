@@ -1,11 +1,16 @@
-//! The library's board on document 01's "Drafts at the edges", all with K = 8, and
-//! the lifts. The numbers are document 01's; each call is compared with the book too.
+//! The library's board on document 01's "Drafts at the edges", all with K = 8, on the
+//! turn counts of document 02, and the lifts. The numbers are the documents'; each call
+//! is compared with the book too.
+
+#[path = "support/turn_counts.rs"]
+mod turn_counts;
 
 use comparison::beside::{Beside, BYTE, ENTRY};
 use comparison::calls;
 use comparison::library::{lift, Board};
 use comparison::scripted::{given, Call};
 use comparison::{MOST_PICKS, MOST_SECTIONS, VISIT_ROOM};
+use turn_counts::TURN_COUNTS;
 
 /// The mask and the visits that the last feed of a draft gives, and its mask.
 fn assert_mask_and_visits(draft: &str, mask: usize, visits: &[u16]) {
@@ -29,11 +34,11 @@ fn assert_mask(draft: &str, mask: usize) {
 }
 
 /// The ends of the whole draft in k, and the turn count.
-fn assert_split(draft: &str, k: u8, ends: &[u16]) {
+fn assert_split(draft: &str, k: u8, ends: &[u16], turns: usize) {
     let mut run = Beside::fed(draft.as_bytes(), MOST_SECTIONS);
     let (prefix, entries) = (draft.len() as u16, u16::from(k));
     let (reply, list, _) = run.make_lent(Call::Split { prefix, k, entries });
-    assert_eq!(reply, given([usize::from(k)]), "{draft} in {k}");
+    assert_eq!(reply, given([turns]), "{draft} in {k}");
     assert_eq!(list, ends, "{draft} in {k}");
 }
 
@@ -63,7 +68,7 @@ fn runs_of_one_letter() {
     assert_mask_and_visits("A", 1, &[1]);
     assert_mask("AA", 3);
     assert_mask_and_visits("AAA", 7, &[3, 1]);
-    assert_split("AAA", 2, &[1, 3]);
+    assert_split("AAA", 2, &[1, 3], 1);
 }
 
 #[test]
@@ -78,7 +83,7 @@ fn alternating_letters() {
 #[test]
 fn abacddc() {
     assert_mask("ABACDDC", 122);
-    assert_split("ABACDDC", 2, &[3, 7]);
+    assert_split("ABACDDC", 2, &[3, 7], 2);
     assert_eq!(Board::started(8).longest_centre(), Ok(1));
     let mut run = Beside::fed(b"ABACDDC", MOST_SECTIONS);
     assert_eq!(run.make(Call::LongestCentre), given([1 + 10]));
@@ -88,10 +93,17 @@ fn abacddc() {
 #[test]
 fn aba() {
     assert_mask("ABA", 0b101);
-    assert_split("ABA", 1, &[3]);
-    assert_split("ABA", 3, &[1, 2, 3]);
+    assert_split("ABA", 1, &[3], 1);
+    assert_split("ABA", 3, &[1, 2, 3], 0);
     let mut board = Board::fed(b"ABA", MOST_SECTIONS);
     assert_eq!(board.split(3, 2, &mut [0; 2]), Err(9));
+}
+
+#[test]
+fn turn_counts() {
+    for (draft, k, ends, turns) in TURN_COUNTS {
+        assert_split(draft, k, ends, turns);
+    }
 }
 
 /// "AABACABAA has centre 10 with radius 4, centre 11 with radius 0 and centre 3 with

@@ -1,5 +1,5 @@
 //! The library's board on stored states made for one purpose: the most visits that
-//! links can make, and both sides of each limit of n and K.
+//! links can make, sections of every length, and both sides of each limit of n and K.
 
 #[path = "support/bounded.rs"]
 mod bounded;
@@ -7,7 +7,7 @@ mod bounded;
 mod ends;
 
 use bounded::make_within_bounds;
-use comparison::library::{Board, NEXT, RADIUS};
+use comparison::library::{Board, NEXT, RADIUS, ROWS};
 use comparison::scripted::Call;
 use comparison::MOST_PICKS;
 use ends::{each_step_ends, Step};
@@ -38,6 +38,38 @@ fn many_visits(n: usize) -> Board {
     for length in 1..=n + 1 {
         let centre = 2 * (n + 1) + 1 - length;
         next[centre] = (centre + length / 3 + 1) as u16;
+    }
+    board
+}
+
+/// Stored row words and radii by which a draft is three sections, the longest of them at
+/// each place and of every length, whatever the letters are: it turns, unless it has one
+/// pick.
+#[test]
+fn sections_of_every_length() {
+    for length in 1..=MOST_PICKS - 2 {
+        for at in 0..3 {
+            let mut lengths = [1; 3];
+            lengths[at] = length;
+            let ends = [1, 2, 3].map(|s| lengths[..s].iter().sum::<usize>() as u16);
+            let mut given = [0; 3];
+            let answer = three_sections(ends).split(length + 2, 3, &mut given);
+            assert_eq!(answer, Ok(usize::from(length > 1)), "lengths {lengths:?}");
+            assert_eq!(given, ends, "lengths {lengths:?}");
+        }
+    }
+}
+
+/// The state of a full draft in which the row words have these ends alone, and every
+/// radius is as large as can be.
+fn three_sections(ends: [u16; 3]) -> Board {
+    let mut board = Board::filled(|| 0);
+    board.store(MOST_PICKS, 8, 2 * MOST_PICKS + 1);
+    board.centre_lane_mut(RADIUS).fill(u16::MAX);
+    let rows = board.place_lane_mut(ROWS);
+    rows[0] = 1;
+    for (at, end) in ends.into_iter().enumerate() {
+        rows[usize::from(end)] = 2 << at;
     }
     board
 }

@@ -2,7 +2,7 @@
 
 use comparison::beside::BYTE;
 use comparison::calls::Section;
-use comparison::library::{section_at, unfold};
+use comparison::library::{section_at, unfold, Board};
 use comparison::plain::Turn;
 
 /// ABACDDC in 2.
@@ -140,6 +140,28 @@ fn the_sections_of_a_record() {
         };
         assert_eq!(section_at(RECORD, at), expected, "at {at}");
     }
+}
+
+/// "A section read from a record still names its middle": AAA in 2 has one turn, and its
+/// first section, of one pick, is yielded as turning on that pick.
+#[test]
+fn a_section_of_one_pick_names_its_middle() {
+    let mut board = Board::fed(b"AAA", 8);
+    assert_eq!(board.split(3, 2, &mut [0; 2]), Ok(1));
+    let mut record = [BYTE; 12];
+    assert_eq!(board.folded_record(3, 2, &mut record), Ok(12));
+    assert_eq!(&record, b"3,2,1,A,2,A\n");
+    let first = Section {
+        length: 1,
+        turn: Turn::OnPick(1),
+    };
+    let second = Section {
+        length: 2,
+        turn: Turn::Between(2),
+    };
+    assert_eq!(section_at(&record, 0), Some((first, 8)));
+    assert_eq!(section_at(&record, 8), Some((second, 12)));
+    assert_eq!(section_at(&record, 12), None);
 }
 
 #[test]

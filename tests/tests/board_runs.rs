@@ -35,27 +35,39 @@ fn make(run: &mut Beside, call: Call) -> Reply {
     reply
 }
 
-/// Makes some calls. Gives how many were accepted and how many refused.
-fn make_some(run: &mut Beside, generator: &mut Generator, calls: usize) -> [usize; 2] {
-    let replies: Vec<Reply> = (0..calls)
-        .map(|_| make(run, some_call(generator, run.book.row.len())))
-        .collect();
-    let accepted = replies.iter().filter(|reply| reply.is_ok()).count();
-    [accepted, calls - accepted]
+/// How many calls were accepted, and how many refused; how many were splits in which every
+/// section turns, and how many such as have sections of one pick.
+type Counts = [usize; 4];
+
+/// Makes some calls, and counts them.
+fn make_some(run: &mut Beside, generator: &mut Generator, calls: usize) -> Counts {
+    let mut counts = [0; 4];
+    for _ in 0..calls {
+        let call = some_call(generator, run.book.row.len());
+        let reply = make(run, call);
+        counts[usize::from(reply.is_err())] += 1;
+        if let (Call::Split { k, .. }, Ok([turns, ..])) = (call, reply) {
+            counts[2 + usize::from(turns < k.into())] += 1;
+        }
+    }
+    counts
 }
 
-/// 10,000 runs of some 30 calls each. Many calls of both kinds must be among them.
+/// 10,000 runs of some 30 calls each. Many calls of both kinds must be among them, and
+/// many splits of both kinds.
 #[test]
 fn random_runs() {
     let generator = &mut Generator(41);
-    let mut counts = [0, 0];
+    let mut counts = [0; 4];
     for _ in 0..10_000 {
         let run = &mut some_run(generator);
         let calls = 20 + generator.below(20);
-        let [accepted, refused] = make_some(run, generator, calls);
-        counts = [counts[0] + accepted, counts[1] + refused];
+        let more = make_some(run, generator, calls);
+        counts = std::array::from_fn(|at| counts[at] + more[at]);
     }
-    assert!(counts.iter().all(|&count| count > 60_000), "{counts:?}");
+    let [accepted, refused, turning, passing] = counts;
+    assert!(accepted.min(refused) > 60_000, "{counts:?}");
+    assert!(turning > 300 && passing > 2_000, "{counts:?}");
 }
 
 /// Runs of some hundred calls each.

@@ -1,6 +1,9 @@
 //! The library's splits and records on every small draft: every prefix, every k from
 //! 0 to K+1, with lists longer than needed and outputs around the record's length.
 
+#[path = "support/turns.rs"]
+mod turns;
+
 use comparison::beside::{BYTE, ENTRY};
 use comparison::calls::State;
 use comparison::fast::Fast;
@@ -9,6 +12,7 @@ use comparison::plain;
 use comparison::samples::{every_draft_to, Generator};
 use comparison::scripted::{Call, Reply};
 use comparison::{MOST_PICKS, MOST_SECTIONS};
+use turns::turns_by_parts;
 
 /// The comparison program's state of a draft.
 fn state_of(draft: &[u8], most_sections: usize) -> State {
@@ -111,7 +115,8 @@ fn longer_drafts() {
 }
 
 /// The split named is the plain definition's as well: of all splits, the one whose
-/// last section is longest, then the one before that.
+/// last section is longest, then the one before that. Its turn count is that of the parts
+/// of the draft by the ends that the board gives.
 #[test]
 fn the_split_named_among_all_splits() {
     for draft in every_draft_to(2, 9) {
@@ -120,11 +125,13 @@ fn the_split_named_among_all_splits() {
             let case = format!("{} in {k}", String::from_utf8_lossy(&draft));
             let mut list = vec![ENTRY; k];
             let answer = board.split(draft.len(), k, &mut list);
-            let named = plain::named_split(&draft, k);
-            assert_eq!(answer, named.as_ref().map(Vec::len).ok_or(9), "{case}");
+            let Some(named) = plain::named_split(&draft, k) else {
+                assert_eq!((answer, list), (Err(9), vec![ENTRY; k]), "{case}");
+                continue;
+            };
             let ends: Vec<usize> = list.into_iter().map(usize::from).collect();
-            let kept = vec![usize::from(ENTRY); k];
-            assert_eq!(ends, named.unwrap_or(kept), "{case}");
+            assert_eq!(ends, named, "{case}");
+            assert_eq!(answer, Ok(turns_by_parts(&draft, &ends)), "{case}");
         }
     }
 }

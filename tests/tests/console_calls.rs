@@ -11,6 +11,8 @@ mod far_places;
 mod next_lines;
 #[path = "support/refusals.rs"]
 mod refusals;
+#[path = "support/turn_lines.rs"]
+mod turn_lines;
 
 use comparison::samples::repeated;
 use comparison::spoken::text_of;
@@ -20,6 +22,7 @@ use console_session::compare_session;
 use far_places::assert_far_are_not_cut;
 use next_lines::assert_every_centre;
 use refusals::refusals;
+use turn_lines::assert_turn_counts;
 
 /// "Drafts at the edges", K = 8, with document 01's numbers.
 #[test]
@@ -54,11 +57,24 @@ fn next_endings() {
     compare_session(false, include_str!("support/sessions/next_endings.txt"));
 }
 
+/// The line that feeds a draft.
+fn feeds(draft: &[u8]) -> String {
+    format!("picks {}\n", text_of(draft))
+}
+
 /// The same at every centre of many drafts.
 #[test]
 fn next_endings_at_every_centre() {
-    let feeds = |draft: &[u8]| format!("picks {}\n", text_of(draft));
     assert_every_centre(feeds, |input| compare(false, input));
+}
+
+/// Sections of one pick, of two and of more; a list of k entries is printed alike with
+/// `--all`.
+#[test]
+fn turn_counts() {
+    for all in [false, true] {
+        assert_turn_counts(feeds, |input| compare(all, input));
+    }
 }
 
 /// Pick 2,048 is taken. Behind it each number of a feed in its order.

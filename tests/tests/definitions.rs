@@ -1,8 +1,13 @@
-//! What document 01 says follows from its definitions, on every small draft.
+//! What document 01 says follows from its definitions, on every small draft; and turn
+//! counts by the parts of the draft.
+
+#[path = "support/turns.rs"]
+mod turns;
 
 use comparison::fast::Fast;
-use comparison::samples::{every_draft_to, Generator};
+use comparison::samples::{every_draft_to, repeated, Generator};
 use comparison::{plain, MOST_SECTIONS};
+use turns::turns_by_parts;
 
 /// Every draft over two letters to length 12 and over three to length 8.
 fn small_drafts() -> impl Iterator<Item = Vec<u8>> {
@@ -93,6 +98,26 @@ fn bit_0_and_the_mask() {
                 "{text} {k}"
             );
         }
+    }
+}
+
+/// "The number of its sections with two or more picks", of every split into 1 to 8: every
+/// count of turns from 0 to k is among those into k.
+#[test]
+fn turn_counts_by_the_parts_of_the_draft() {
+    let longer = (11..=16).map(|length| repeated(b"AABB", length));
+    let drafts: Vec<Vec<u8>> = every_draft_to(2, 10).chain(longer).collect();
+    for k in 1..=MOST_SECTIONS {
+        let mut given = vec![false; k + 1];
+        for draft in &drafts {
+            for ends in plain::all_splits(draft, k) {
+                let turns = plain::turn_count(&ends);
+                let text = String::from_utf8_lossy(draft);
+                assert_eq!(turns, turns_by_parts(draft, &ends), "{text} {ends:?}");
+                given[turns] = true;
+            }
+        }
+        assert!(!given.contains(&false), "in {k}: {given:?}");
     }
 }
 

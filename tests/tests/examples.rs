@@ -52,7 +52,7 @@ fn the_worked_example() {
 fn other_drafts() {
     let lines = [
         "1 A: mask 1, sections 1",
-        "1 sections, 1 turns",
+        "1 sections, 0 turns",
         "section 1: A",
         "1,1,1,A",
         "unfolded: A",
@@ -67,6 +67,7 @@ fn other_drafts() {
         "\n2048,8,1,A,1,A,1,A,1,A,1,A,1,A,1,A,2041,{}\nunfolded: {draft}\n",
         "A".repeat(1_021)
     );
+    assert!(printed.contains("\n8 sections, 1 turns\n"), "{printed}");
     assert!(printed.contains(&record), "{printed}");
     assert!(
         printed.ends_with("\n2041 picks, turning on pick 1028\n"),

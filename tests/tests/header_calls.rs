@@ -16,6 +16,8 @@ mod next_lines;
 mod process;
 #[path = "support/transcript.rs"]
 mod transcript;
+#[path = "support/turn_lines.rs"]
+mod turn_lines;
 
 use answered::{assert_answered, end_of};
 use c_program::program;
@@ -33,6 +35,7 @@ use std::path::{Path, PathBuf};
 use std::process::{Command, Stdio};
 use std::sync::LazyLock;
 use transcript::assert_session;
+use turn_lines::assert_turn_counts;
 
 /// The program that makes the calls.
 const SOURCE: &str = "c/spoken.c";
@@ -124,6 +127,12 @@ fn arguments_beyond_the_fields() {
 #[test]
 fn next_endings_at_every_centre() {
     assert_every_centre(feeds, |input| compare(&IN_C, input));
+}
+
+/// Sections of one pick, of two and of more.
+#[test]
+fn turn_counts() {
+    assert_turn_counts(feeds, |input| compare(&IN_C, input));
 }
 
 /// Drafts of 2,048 picks and one more, with calls behind them.

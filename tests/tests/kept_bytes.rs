@@ -78,7 +78,7 @@ fn accepted_splits_keep_the_entries_past_the_ends() {
     let mut list = [ENTRY; 6];
     assert_eq!(calls::split(&state, 7, 2, &mut list), Ok(2));
     assert_eq!(list, [3, 7, ENTRY, ENTRY, ENTRY, ENTRY]);
-    assert_eq!(calls::split(&state, 3, 3, &mut list), Ok(3));
+    assert_eq!(calls::split(&state, 3, 3, &mut list), Ok(0));
     assert_eq!(list, [1, 2, 3, ENTRY, ENTRY, ENTRY]);
     assert_eq!(calls::split(&state, 5, 1, &mut list), Err(9));
     assert_eq!(list, [1, 2, 3, ENTRY, ENTRY, ENTRY]);

@@ -1,10 +1,14 @@
 //! Runs of calls beside the plain book: every answer is the one read from the book's
 //! K and letters, and a start or a feed is accepted exactly when the book takes it.
 
+#[path = "support/turns.rs"]
+mod turns;
+
 use comparison::book::Book;
 use comparison::calls::{self, Answer, State, Taken};
 use comparison::samples::Generator;
 use comparison::{plain, MOST_PICKS, VISIT_ROOM};
+use turns::turns_by_parts;
 
 /// A call of a run with its arguments.
 #[derive(Debug)]
@@ -66,10 +70,11 @@ fn split_by_book(book: &Book, i: usize, k: usize, entries: usize) -> (Answer<usi
     if i > book.row.len() {
         return (Err(4), Vec::new());
     }
-    match plain::named_split(&book.row[..i], k) {
-        Some(ends) => (Ok(k), ends.iter().map(|&end| end as u16).collect()),
-        None => (Err(9), Vec::new()),
-    }
+    let Some(ends) = plain::named_split(&book.row[..i], k) else {
+        return (Err(9), Vec::new());
+    };
+    let turns = turns_by_parts(&book.row, &ends);
+    (Ok(turns), ends.iter().map(|&end| end as u16).collect())
 }
 
 /// A list of so many entries, each holding 500 but for those of the front.
@@ -79,8 +84,9 @@ fn list_with(front: &[u16], entries: usize) -> Vec<u16> {
     list
 }
 
-/// Makes one call and asserts that its answer and its list are those of the book.
-fn assert_call(state: &mut State, book: &mut Book, call: &Call) {
+/// Makes one call and asserts that its answer and its list are those of the book. Gives
+/// of an accepted split how many of its sections have one pick.
+fn assert_call(state: &mut State, book: &mut Book, call: &Call) -> Option<usize> {
     match *call {
         Call::Start(most_sections) => {
             let answer = calls::start(state, most_sections);
@@ -101,12 +107,14 @@ fn assert_call(state: &mut State, book: &mut Book, call: &Call) {
             let (expected, front) = split_by_book(book, i, k, entries);
             assert_eq!(answer, expected, "{book:?} {call:?}");
             assert_eq!(list, list_with(&front, entries), "{book:?} {call:?}");
+            return answer.ok().map(|turns| k - turns);
         }
         Call::LongestCentre => {
             let expected = Ok(plain::longest_centre(&book.row));
             assert_eq!(calls::longest_centre(state), expected, "{book:?}");
         }
     }
+    None
 }
 
 /// The first call is a start with K from 1 to 8, on any stored state whatever.
@@ -118,9 +126,12 @@ fn first_state(generator: &mut Generator) -> State {
     }
 }
 
+/// Splits in which every section turns, and such as have sections of one pick, must be
+/// among the calls.
 #[test]
 fn every_answer_of_a_run_is_the_books() {
     let mut generator = Generator(3);
+    let mut of_one_pick = Vec::new();
     for _ in 0..400 {
         let mut state = first_state(&mut generator);
         let mut book = Book::default();
@@ -128,10 +139,13 @@ fn every_answer_of_a_run_is_the_books() {
         assert_call(&mut state, &mut book, &Call::Start(most_sections));
         for _ in 0..24 {
             let call = some_call(&mut generator);
-            assert_call(&mut state, &mut book, &call);
+            of_one_pick.extend(assert_call(&mut state, &mut book, &call));
             assert_eq!(state.most_sections, book.most_sections, "{call:?}");
             assert_eq!(state.letters[..state.n], book.row, "{call:?}");
         }
+    }
+    for count in 0..4 {
+        assert!(of_one_pick.contains(&count), "{count} sections of one pick");
     }
 }
 

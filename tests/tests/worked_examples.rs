@@ -1,9 +1,12 @@
-//! Every worked example of document 01, but for the draft program's.
+//! Every worked example of document 01, but for the draft program's, and the turn counts
+//! of document 02.
 
 #[path = "support/both.rs"]
 mod both;
 #[path = "support/fed.rs"]
 mod fed;
+#[path = "support/turn_counts.rs"]
+mod turn_counts;
 
 use both::both;
 use comparison::calls::{self, NextEnding};
@@ -11,6 +14,7 @@ use comparison::fast::Fast;
 use comparison::samples::{every_draft_to, repeated};
 use comparison::{plain, FIRST_PICK, LAST_PICK, MOST_PICKS, MOST_SECTIONS, VISIT_ROOM};
 use fed::fed;
+use turn_counts::TURN_COUNTS;
 
 /// The mask and the visits of the whole draft, on both paths and from its last feed.
 fn assert_mask_and_visits(draft: &str, mask: u8, visits: &[usize]) {
@@ -43,8 +47,9 @@ fn assert_mask(draft: &str, mask: u8) {
     );
 }
 
-/// The named split of the whole draft in k, on both paths and from the call.
-fn assert_split(draft: &str, k: usize, ends: &[usize]) {
+/// The named split of the whole draft in k, on both paths and from the call, which gives
+/// the turn count too.
+fn assert_split(draft: &str, k: usize, ends: &[usize], turns: usize) {
     both(
         draft,
         Some(ends.to_vec()),
@@ -55,11 +60,11 @@ fn assert_split(draft: &str, k: usize, ends: &[usize]) {
     let state = fed(draft.as_bytes(), MOST_SECTIONS);
     assert_eq!(
         calls::split(&state, draft.len(), k, &mut list),
-        Ok(k),
-        "{draft}"
+        Ok(turns),
+        "{draft} in {k}"
     );
     let given: Vec<usize> = list.iter().map(|&end| usize::from(end)).collect();
-    assert_eq!(given, ends, "{draft}");
+    assert_eq!(given, ends, "{draft} in {k}");
 }
 
 /// No split of the whole draft in k, on both paths and from the call.
@@ -91,7 +96,7 @@ fn runs_of_one_letter() {
     assert_mask_and_visits("A", 1, &[1]);
     assert_mask("AA", 3);
     assert_mask_and_visits("AAA", 7, &[3, 1]);
-    assert_split("AAA", 2, &[1, 3]);
+    assert_split("AAA", 2, &[1, 3], 1);
 }
 
 #[test]
@@ -104,7 +109,7 @@ fn alternating_letters() {
 #[test]
 fn abacddc() {
     assert_mask("ABACDDC", 122);
-    assert_split("ABACDDC", 2, &[3, 7]);
+    assert_split("ABACDDC", 2, &[3, 7], 2);
     both("ABACDDC", 11, plain::longest_centre, Fast::longest_centre);
     let on_empty = calls::longest_centre(&fed(b"", MOST_SECTIONS)).unwrap();
     let at_end = calls::longest_centre(&fed(b"ABACDDC", MOST_SECTIONS)).unwrap();
@@ -184,9 +189,17 @@ fn the_last_pick_the_visit_list_and_the_bytes_beside_the_letters() {
 
 #[test]
 fn aba_splits_in_1_and_in_3_never_in_2() {
-    assert_split("ABA", 1, &[3]);
+    assert_split("ABA", 1, &[3], 1);
     assert_no_split("ABA", 2);
-    assert_split("ABA", 3, &[1, 2, 3]);
+    assert_split("ABA", 3, &[1, 2, 3], 0);
+}
+
+#[test]
+fn turn_counts() {
+    for (draft, k, ends, turns) in TURN_COUNTS {
+        let ends: Vec<usize> = ends.iter().map(|&end| usize::from(end)).collect();
+        assert_split(draft, usize::from(k), &ends, turns);
+    }
 }
 
 #[test]

@@ -1,4 +1,4 @@
-// Split: a prefix and k, giving the ends of the split named.
+// Split: a prefix and k, giving the ends of the split named, and its turn count.
 ghost use mathlib.Core.Path.{_≡_};
 ghost use Rattle.promises.specs.Answers.{reply, splitSays};
 ghost use Rattle.promises.specs.Book.{split};
@@ -11,6 +11,7 @@ use promises::NO_SPLIT;
 use promises::SplitAnswer;
 use refusals::split_refusal;
 use splitting::split_from;
+use splitting::turn_count;
 
 pub fn split(
     rows: &ByPlace,
@@ -28,7 +29,9 @@ pub fn split(
         return SplitAnswer::Refused(number);
     }
     if split_from(rows, radius, held, i, k, ends) {
-        return SplitAnswer::Split(k as usize);
+        let count = k as usize;
+        let turns = turn_count(&ends[..count]);
+        return SplitAnswer::Split(turns);
     }
     SplitAnswer::Refused(NO_SPLIT)
 }

@@ -5,7 +5,6 @@ use Prim.Native.Nat.{ℕ}
 use Prim.Native.String.{String}
 use Rattle.text.specs.Definitions.{decimal, bytes}
 use Rattle.layout.specs.declared.Turn.the-variants.{OnPick, Between}
-use Rattle.layout.specs.declared.Section.{Section}
 use Rattle.layout.specs.Record.{Folded}
 use Rattle.layout.specs.Reading.{Reading, whole, breaks, reading}
 use Rattle.layout.specs.Unfolding.{picksOf}
@@ -67,6 +66,12 @@ pub example-sections : walk (bytes "7,2,3,AB,4,CD\n") 3 0
     ≡ record { length = 3; turn = OnPick (record { 0 = 2 }) } ∷ record { length = 4; turn = Between (record { 0 = 5 }) } ∷ []
 unfolding walk bytes decimal
 example-sections = refl
+
+-- "A section read from a record still names its middle": of one pick that pick
+pub example-one-pick : walk (bytes "3,2,1,A,2,A\n") 3 0
+    ≡ record { length = 1; turn = OnPick (record { 0 = 1 }) } ∷ record { length = 2; turn = Between (record { 0 = 2 }) } ∷ []
+unfolding walk bytes decimal
+example-one-pick = refl
 
 -- none where the lengths do not add up
 pub example-none : walk (bytes "8,2,3,AB,4,CD\n") 3 0 ≡ []

@@ -1,15 +1,18 @@
--- How the code of the split goes through its model: the search for a start, and from section to section.
+-- How the code of the split goes through its model: the search for a start, from section to section, and the turn count.
 use mathlib.Core.Path.{_≡_, refl, sym, ap, subst, _∙_}
 use mathlib.Core.Bool.{Bool, true, false, cond, true≢false, false≢true}
 use mathlib.Core.List.{List, [], _∷_, _++_}
 use mathlib.Core.Option.{Option, some, none}
 use Prim.Native.Nat.{ℕ, zero, suc, _+_, _-_, _/_, _≤_, _<_}
 use native.Mathlib.Omega.{arith}
+use native.Mathlib.Decide.{ℕ-discrete}
+use native.Mathlib.Numerals.{add-one}
 use lib.Dec.{leb, eqb}
-use lib.ListN.{length, set, length-append}
-use lib.Seq.{sets}
+use lib.ListN.{length, drop, set, length-append, drop-of-length-le}
+use lib.Seq.{sets, drop-cons}
+use borrow.Author.Tests.{eq-eqb, ne-eqb}
 use Rattle.words.specs.Cases.{clash}
-use Rattle.words.specs.Definitions.{bit}
+use Rattle.words.specs.Definitions.{lengthsBack, turnsOf, Rising, done, next, bit}
 use Rattle.models.specs.Iterator.{radiusOf}
 use Rattle.models.specs.Stores.{at, sets-append}
 use Rattle.models.specs.Splitting.{joinLast, joinRest, startsAt, firstStart, splitBy}
@@ -57,29 +60,37 @@ module _ (rows R : List ℕ) (n s k i : ℕ) where
   pub start-before : (x : ℕ) → some x ≡ firstStart rows R n s k i i 0 → x < i
   start-before x e = omega (arith, first-below i 0 x (sym e))
 
-module _ (rows R : List ℕ) (n s : ℕ) where
-  joined-length : (k i : ℕ) (o : Option (List ℕ)) (ends : List ℕ) → ((es : List ℕ) → o ≡ some es → length es ≡ k) → joinLast i o ≡ some ends
-      → length ends ≡ suc k
-  unfolding joinLast
-  joined-length k i none ends f e = clash cc
-  joined-length k i (some es) ends f e =
-      let z : es ++ i ∷ [] ≡ ends = cc in
-      ap length (sym z) ∙ length-append es (i ∷ []) ∙ omega (arith, f es refl)
+-- The ends, whatever is stored: k of them, rising from above 0 to i
 
-  -- as many ends as sections
-  pub split-length : (k i : ℕ) (ends : List ℕ) → splitBy rows R n s k i ≡ some ends → length ends ≡ k
-  unfolding splitBy
-  split-length zero i ends e = go (eqb i 0) e
-    where
-      go : (b : Bool) → cond b (some []) none ≡ some ends → length ends ≡ 0
-      go true q = let z : ends ≡ [] = cc in rw z
-      go false q = clash cc
-  split-length (suc k) i ends e = go (firstStart rows R n s k i i 0) e (split-length k)
-    where
-      go : (o : Option ℕ) → joinRest (splitBy rows R n s k) i o ≡ some ends
-          → ((j : ℕ) (es : List ℕ) → splitBy rows R n s k j ≡ some es → length es ≡ k) → length ends ≡ suc k
-      go none q f = clash cc
-      go (some j) q f = joined-length k i (splitBy rows R n s k j) ends (f j) q
+abbrev pub EndsOf : (i k : ℕ) → List ℕ → Type 0
+EndsOf i k ends = (length ends ≡ k) × Rising i 0 ends
+
+rising-after : {i j a : ℕ} {ends : List ℕ} → Rising j a ends → j < i → Rising i a (ends ++ i ∷ [])
+rising-after done l = next l done
+rising-after (next m h) l = next m (rising-after h l)
+
+ends-joined : (k i j : ℕ) (o : Option (List ℕ)) (ends : List ℕ) → j < i → ((es : List ℕ) → o ≡ some es → EndsOf j k es) → joinLast i o ≡ some ends
+    → EndsOf i (suc k) ends
+unfolding joinLast
+ends-joined k i j none ends l f e = clash cc
+ends-joined k i j (some es) ends l f e =
+    let h = f es refl in
+    let z : es ++ i ∷ [] ≡ ends = cc in
+    rw (← z) (length-append es (i ∷ []) ∙ omega (arith, h .0), rising-after (h .1) l)
+
+pub split-ends : (rows R : List ℕ) (n s k i : ℕ) (ends : List ℕ) → splitBy rows R n s k i ≡ some ends → EndsOf i k ends
+unfolding splitBy joinRest
+split-ends rows R n s zero i ends e = go (ℕ-discrete i 0)
+  where
+    go : Dec (i ≡ 0) → EndsOf i 0 ends
+    go (yes z) = let q : ends ≡ [] = cc (simp (eq-eqb i 0 z) at e) in rw (q, z) (refl, done)
+    go (no f) = clash (cc (simp (ne-eqb i 0 f) at e))
+split-ends rows R n s (suc k) i ends e = go (firstStart rows R n s k i i 0) refl e (split-ends rows R n s k)
+  where
+    go : (o : Option ℕ) → firstStart rows R n s k i i 0 ≡ o → joinRest (splitBy rows R n s k) i o ≡ some ends
+        → ((j : ℕ) (es : List ℕ) → splitBy rows R n s k j ≡ some es → EndsOf j k es) → EndsOf i (suc k) ends
+    go none z q f = clash cc
+    go (some j) z q f = ends-joined k i j (splitBy rows R n s k j) ends (start-before rows R n s k i j (sym z)) (f j) q
 
 -- What is stored: the ends of a split at the front of a list
 
@@ -142,4 +153,20 @@ module _ (rows R : List ℕ) (n s i : ℕ) (before : List ℕ) where
       pub stores-more : (b : Bool) (x : ℕ) (between after : List ℕ) → Stores (splitBy rows R n s (k - 1) j) before b between → b ≡ true
           → x ≡ i → after ≡ set between (k - 1) x → Stores (splitBy rows R n s k i) before true after
       stores-more b x between after h t q f =
-          rw joined (stores-last (k - 1) i x (splitBy rows R n s (k - 1) j) before between after (split-length rows R n s (k - 1) j) (rw t at h) q f)
+          rw joined (stores-last (k - 1) i x (splitBy rows R n s (k - 1) j) before between after (λ es e. split-ends rows R n s (k - 1) j es e .0) (rw t at h) q f)
+
+-- The turn count: the sections from number j on are left
+
+turns-join : (s t : List ℕ) → turnsOf (s ++ t) ≡ turnsOf s + turnsOf t
+turns-join [] t = omega arith
+turns-join (len ∷ s) t = omega (arith, turns-join s t)
+
+pub turns-more : (a e len j turns more : ℕ) (ends : List ℕ) → j < length ends → e ≡ at ends j → len ≡ e - a → more ≡ turnsOf (len ∷ [])
+    → turns + more + turnsOf (lengthsBack e (drop (j + 1) ends)) ≡ turns + turnsOf (lengthsBack a (drop j ends))
+turns-more a e len j turns more ends h q f g =
+    let rest = lengthsBack e (drop (suc j) ends) in
+    let z : lengthsBack a (drop j ends) ≡ rest ++ len ∷ [] = rw (f, q, drop-cons ends j 0 h) in
+    rw (add-one j, z) (omega (arith, g, turns-join rest (len ∷ [])))
+
+pub turns-end : (a j : ℕ) (ends : List ℕ) → length ends ≤ j → turnsOf (lengthsBack a (drop j ends)) ≡ 0
+turns-end a j ends h = rw (drop-of-length-le ends h)

@@ -59,7 +59,7 @@ found-outcome b (ask (fold i k output)) p = record-found b i k output
 pub found-only : (d : Draft) (q : Query) → OnlyUnder (lent (ask q)) (soughtNumbers (ask q)) (foundIn d q)
 unfolding foundIn lent sought
 found-only d (split i k list) =
-    no-split-only (splitHeld d k i) list [] _ (λ ends. gave-only (length ends ∷ []) list (filled ends list) (9 ∷ []))
+    no-split-only (splitHeld d k i) list [] _ (λ ends. gave-only _ list (filled ends list) (9 ∷ []))
 found-only d longest = gave-only _ [] [] []
 found-only d (mask i) = gave-only _ [] [] []
 found-only d (radius c) = gave-only _ [] [] []

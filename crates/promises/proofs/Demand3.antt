@@ -3,7 +3,7 @@ use mathlib.Core.Path.{_≡_, refl, sym, ap, _∙_}
 use mathlib.Core.Bool.{true}
 use mathlib.Core.Logic.{_↔_, inl}
 use mathlib.Core.List.{List, [], _∷_, _++_}
-use mathlib.Core.Option.{Option, some}
+use mathlib.Core.Option.{Option, some, none}
 use Prim.Native.Nat.{ℕ, _+_, _-_, _*_, _≤_, _<_}
 use native.Mathlib.Omega.{arith}
 use lib.ListN.{length, take, drop, length-append}
@@ -22,7 +22,7 @@ use Rattle.models.specs.Centres.{longest-centre-at}
 use Rattle.promises.specs.declared.Draft.{Draft}
 use Rattle.promises.specs.declared.Started.{Started}
 use Rattle.promises.specs.declared.Fed.{Fed}
-use Rattle.promises.specs.Answers.{Said, gave, refused, refusedAt, Reply, reply, startSays, feedSays, filled}
+use Rattle.promises.specs.Answers.{Said, gave, refused, refusedAt, Reply, reply, startSays, feedSays}
 use Rattle.promises.specs.Refusals.{startRefusal, splitRefusal, centreRefusal, longestRefusal}
 use Rattle.promises.specs.Book.{Book, blank, split, longest, next, lent, startTaken}
 use Rattle.promises.specs.Replies.{orNoSplit, orNoEnding, splitReply, refusalOf, foundFor, replyTo}
@@ -74,18 +74,16 @@ split-found u i k before said after e = go (splitOf (word u) i k) (split-law (wo
         → reply said after ≡ splitReply o before
         → SplitRight u i k before said after
     go o (given ends p n) e =
-        let q : reply said after ≡ reply (gave (length ends ∷ [])) (filled ends before) =
-        e ∙ ap (λ x. splitReply x before) p in
+        let q : reply said after ≡ splitReply (some ends) before = e ∙ ap (λ x. splitReply x before) p in
         let c : length ends ≡ k = n .is .count in
         let ok : Accepted said = gave-accepted (said-is q) in
         record {
           wants = (λ z. absurd (ok 9 (inl z)), λ f. absurd (f ends (n .is)));
           keeps = λ z. absurd (ok 9 (inl z));
-          gives = λ _. (ends, n, said-is q ∙ ap (λ x. gave (x ∷ [])) c, list-is q ∙ ap (λ x. ends ++ drop x before) c);
+          gives = λ _. (ends, n, said-is q, list-is q ∙ ap (λ x. ends ++ drop x before) c);
         }
     go o (lacking p f) e =
-        let q : reply said after ≡ reply (refused 9) before =
-        e ∙ ap (λ x. splitReply x before) p in
+        let q : reply said after ≡ splitReply none before = e ∙ ap (λ x. splitReply x before) p in
         record { wants = (λ _. f, λ _. said-is q); keeps = λ _. list-is q; gives = λ z. absurd (z (said-is q)) }
 
 split-right : {d : Draft} {b : Book} → Holds d b → (i k : ℕ) (before : List ℕ) (r : Reply)

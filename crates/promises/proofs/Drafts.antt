@@ -5,7 +5,7 @@ use mathlib.Core.Option.{Option, some, none}
 use Prim.Native.Nat.{ℕ, _-_}
 use native.Mathlib.Omega.{arith}
 use lib.ListN.{length, replicate, length-replicate}
-use Rattle.words.specs.Definitions.{mostSections, word}
+use Rattle.words.specs.Definitions.{mostSections, word, turnCount}
 use Rattle.words.specs.Computed.{longestCentre, splitOf}
 use Rattle.words.specs.Computed.{mask as maskOf, visits as lengthsOf, radiusAt as radiusOf}
 use Rattle.words.specs.Laws.{longest-centre}
@@ -13,16 +13,20 @@ use Rattle.promises.specs.Answers.{gave, reply}
 use Rattle.promises.specs.Replies.{orNoSplit, splitReply, refusalOf, fedVisits, foundFor, replyTo}
 use Rattle.promises.specs.Book.{lent}
 use Rattle.promises.specs.BookLaws.{unless-zero}
-use Rattle.promises.specs.Drafts.{Question, mask, visits, moved, endsIn, radiusAt, Row, table, bookFor, lastPick, callFor, entries, replyWith, Right}
+use Rattle.promises.specs.Drafts.{Question, mask, visits, moved, splitIn, radiusAt, Row, table, bookFor, lastPick, callFor, entries, replyWith, Right}
 
 -- One test over the whole table: no row's call meets a line that needs no letters, and what is found is the answer
 
+withTurns : Option (List ℕ) → Option (List ℕ)
+withTurns none = none
+withTurns (some ends) = some (turnCount ends ∷ ends)
+
 found : List ℕ → Question → Option (List ℕ)
-unfolding maskOf lengthsOf longestCentre splitOf radiusOf
+unfolding maskOf lengthsOf longestCentre splitOf withTurns radiusOf
 found u mask = some (maskOf mostSections (word u) (length u) ∷ [])
 found u visits = some (fedVisits (bookFor u visits) (lastPick u))
 found u moved = some ((longestCentre (word u) (length u) - 1) ∷ [])
-found u (endsIn k) = splitOf (word u) (length u) k
+found u (splitIn k) = withTurns (splitOf (word u) (length u) k)
 found u (radiusAt c) = some (radiusOf (word u) (length u) c ∷ [])
 
 -- on a list of so many zeros: the number hangs on the list's length only
@@ -53,23 +57,23 @@ unfolding refusalOf
 same-number n K u mask list other e = refl
 same-number n K u visits list other e = rw e
 same-number n K u moved list other e = refl
-same-number n K u (endsIn k) list other e = rw e
+same-number n K u (splitIn k) list other e = rw e
 same-number n K u (radiusAt c) list other e = refl
 
 reply-is : (u : List ℕ) (q : Question) (answer : Option (List ℕ)) (list : List ℕ)
     → refusalOf (length (bookFor u q .row)) mostSections (callFor u q list) ≡ 0 → found u q ≡ answer
     → replyTo (bookFor u q) (callFor u q list) ≡ replyWith u q answer list
-unfolding replyTo refusalOf lent foundFor found orNoSplit
+unfolding replyTo refusalOf lent foundFor found withTurns orNoSplit
 reply-is u mask answer list z e = rw (← e) (unless-zero _ [] _ z)
 reply-is u visits answer list z e = rw (← e) (unless-zero _ list _ z)
 reply-is u moved answer list z e =
     rw (← e) (unless-zero _ [] _ z ∙ ap (λ c. reply (gave (c ∷ [])) []) (omega (arith, longest-centre (word u) (length u))))
-reply-is u (endsIn k) answer list z e = unless-zero _ list _ z ∙ go (splitOf (word u) (length u) k) answer e
+reply-is u (splitIn k) answer list z e =
+    unless-zero _ list _ z ∙ counted (splitOf (word u) (length u) k) ∙ ap (λ a. replyWith u (splitIn k) a list) e
   where
-    go : (o a : Option (List ℕ)) → o ≡ a
-        → splitReply o list ≡ replyWith u (endsIn k) a list
-    go o none e = rw e
-    go o (some ends) e = rw e
+    counted : (o : Option (List ℕ)) → splitReply o list ≡ replyWith u (splitIn k) (withTurns o) list
+    counted none = refl
+    counted (some ends) = refl
 reply-is u (radiusAt c) answer list z e = rw (← e) (unless-zero _ [] _ z)
 
 -- THE FACT: of each row, for any list of as many entries as its question lends

@@ -59,9 +59,7 @@ splits-found b i k list = go (splitOf (word (b .row)) i k) (split-law (word (b .
     go : (o : Option (List ℕ)) → Splitting (word (b .row)) i k o
         → Outcome b (ask (split i k list)) (noSplit (b .row) i k ∷ []) (splitReply o list)
     go o (lacking p f) = rw p (under 9 (inl (f, refl)) refl)
-    go o (given ends p n) =
-        let c : length ends ≡ k = n .is .count in
-        rw (p, c) (fine (λ f. f ends (n .is), tt) (gave-accepted refl) (record { ends = ends; named = n; is = rw c }))
+    go o (given ends p n) = rw p (fine (λ f. f ends (n .is), tt) (gave-accepted refl) (record { ends = ends; named = n; is = refl }))
 
 -- the radius of the longest stretch at a centre
 pub radius-found : (b : Book) (c : ℕ) → (Outside 1 (2 * length (b .row) + 1) c → ⊥) → RadiusSays (b .row) c (gives (radiusAt (word (b .row)) (length (b .row)) c ∷ []))

@@ -5,14 +5,14 @@ use mathlib.Core.Logic.{_↔_, _≢_}
 use mathlib.Core.List.{List, [], _∷_, _++_, map, List·Memᴰ}
 use Prim.Native.Nat.{ℕ, _+_, _-_, _*_, _^_, _≤_}
 use lib.ListN.{length, take, drop}
-use Rattle.words.specs.Definitions.{mostSections, From, word, centre, lengthAt, LongestEnding, nextLeading, Follows, Visits, Split, Named}
+use Rattle.words.specs.Definitions.{mostSections, From, word, centre, lengthAt, LongestEnding, nextLeading, Follows, Visits, Split, Named, turnCount, Rising}
 use Rattle.words.specs.Computed.{rowWord, gatheredWord}
 use Rattle.models.specs.Stores.{at}
 use Rattle.promises.specs.declared.Draft.{Draft}
 use Rattle.promises.specs.declared.Started.{Started}
 use Rattle.promises.specs.declared.Fed.{Fed}
 use Rattle.promises.specs.declared.LiftAnswer.{LiftAnswer}
-use Rattle.promises.specs.Answers.{Said, gave, refused, Under, Reply, startSays, feedSays, liftSays}
+use Rattle.promises.specs.Answers.{Said, gave, refused, Under, Reply, reply, filled, startSays, feedSays, liftSays}
 use Rattle.promises.specs.Lifts.{lift}
 use Rattle.promises.specs.Book.{Book, Call, ask, split, longest, mask, next, fold, blank, lent, startTaken, feedTaken, bookOf}
 use Rattle.promises.specs.Listed.{First, NoneMet, recordLonger, noSplit, noEnding, listed, sought, lines, showLines, liftLines}
@@ -101,6 +101,13 @@ pub record NextRight (n c : ℕ) (said : Said) : Type 0 where
   pub less : len - p ≡ lengthAt n to
   pub within : From (c + 1) (2 * n + 1) to
 
+-- a split of prefix i into k, whatever is stored: k ends that rise from above 0 to i, and their turn count
+pub record EndsRight (i k : ℕ) (before : List ℕ) (r : Reply) : Type 0 where
+  pub ends : List ℕ
+  pub count : length ends ≡ k
+  pub rising : Rising i 0 ends
+  pub is : r ≡ reply (gave (turnCount ends ∷ [])) (filled ends before)
+
 -- show and its companion, on one input: 4, then 6, else the part
 pub record ShowRight (letters ends : List ℕ) (s : ℕ) (part : List ℕ) (number : ℕ) : Type 0 where
   pub refuses : (x : ℕ) → x ≢ 0 → (number ≡ x) ↔ First (showLines letters ends s) x
@@ -134,8 +141,9 @@ pub record SplitRight (u : List ℕ) (i k : ℕ) (before : List ℕ) (said : Sai
   pub wants : (said ≡ refused 9) ↔ ((ends : List ℕ) → Split (word u) i k ends → ⊥)
   pub keeps : said ≡ refused 9 → after ≡ before
   -- "and otherwise gives the ends of the one document 01 names": `Named` says that every other split, read from its last section back,
-  -- first differs by a shorter section
-  pub gives : (said ≡ refused 9 → ⊥) → (ends : List ℕ) × Named (word u) i k ends × (said ≡ gave (k ∷ [])) × (after ≡ ends ++ drop k before)
+  -- first differs by a shorter section. The turn count is "the number of its sections with two or more picks"
+  pub gives : (said ≡ refused 9 → ⊥)
+      → (ends : List ℕ) × Named (word u) i k ends × (said ≡ gave (turnCount ends ∷ [])) × (after ≡ ends ++ drop k before)
 
 -- "The longest ending's centre has moved exactly 2n - L half picks, L its length": moved is the number given, minus 1
 pub record MovedRight (u : List ℕ) (said : Said) : Type 0 where
@@ -194,6 +202,9 @@ Demand1Holds = (d : Draft) (m : Made) → Meets d m → Demand1 d m
 
 abbrev pub NextHolds : Type 0
 NextHolds = (d : Draft) (c : ℕ) (r : Reply) → Reads d (next c) r → Accepted (r .said) → NextRight (d .n) c (r .said)
+
+abbrev pub SplitHolds : Type 0
+SplitHolds = (d : Draft) (i k : ℕ) (before : List ℕ) (r : Reply) → Reads d (split i k before) r → Accepted (r .said) → EndsRight i k before r
 
 abbrev pub OfEveryRun : (Draft → List Made → Type 0) → Type 0
 OfEveryRun P = (d : Draft) (K : ℕ) (r : Started) (ms : List Made) → Opened d K r ms → P d (started K r ∷ ms)

@@ -1,10 +1,11 @@
--- The drafts marked P in document 01: one table, each row a draft, a question and document 01's answer. All have K = 8.
+-- The drafts marked P in document 01, with document 02's turn counts: one table, each row a draft, a question and the documents' answer.
+-- All have K = 8.
 use mathlib.Core.Path.{_≡_}
 use mathlib.Core.List.{List, [], _∷_, map}
 use mathlib.Core.Option.{Option, some, none}
 use Prim.Native.Nat.{ℕ, suc, _-_}
 use Prim.Native.String.{String}
-use lib.ListN.{length, take, getD}
+use lib.ListN.{length, take, drop, getD}
 use Rattle.words.specs.Definitions.{mostSections, mostVisits}
 use Rattle.text.specs.Definitions.{bytes}
 use Rattle.promises.specs.Answers.{gave, refused, Reply, reply, filled}
@@ -14,10 +15,10 @@ use Rattle.promises.specs.Replies.{fedMask, replyTo}
 
 pub data Question : Type 0 where
   mask visits moved : Question
-  endsIn : (k : ℕ) → Question
+  splitIn : (k : ℕ) → Question
   radiusAt : (c : ℕ) → Question
 
--- numbers, or none where there is no split
+-- numbers, of a split its turn count and its ends; or none where there is no split
 pub record Row : Type 0 where
   pub letters : List ℕ
   pub question : Question
@@ -31,14 +32,14 @@ unfoldable pub table : List Row
 unfolding row
 table =
     row "" mask (some (0 ∷ []))
-    ∷ row "" (endsIn 1) none
-    ∷ row "" (endsIn 2) none
-    ∷ row "" (endsIn 3) none
-    ∷ row "" (endsIn 4) none
-    ∷ row "" (endsIn 5) none
-    ∷ row "" (endsIn 6) none
-    ∷ row "" (endsIn 7) none
-    ∷ row "" (endsIn 8) none
+    ∷ row "" (splitIn 1) none
+    ∷ row "" (splitIn 2) none
+    ∷ row "" (splitIn 3) none
+    ∷ row "" (splitIn 4) none
+    ∷ row "" (splitIn 5) none
+    ∷ row "" (splitIn 6) none
+    ∷ row "" (splitIn 7) none
+    ∷ row "" (splitIn 8) none
     ∷ row "A" mask (some (1 ∷ []))
     ∷ row "A" visits (some (1 ∷ []))
     ∷ row "AA" mask (some (3 ∷ []))
@@ -49,9 +50,9 @@ table =
     ∷ row "ABABAB" visits (some (5 ∷ 3 ∷ 1 ∷ []))
     ∷ row "ABABABA" mask (some (85 ∷ []))
     ∷ row "ABABABA" visits (some (7 ∷ 3 ∷ 1 ∷ []))
-    ∷ row "AAA" (endsIn 2) (some (1 ∷ 3 ∷ []))
+    ∷ row "AAA" (splitIn 2) (some (1 ∷ 1 ∷ 3 ∷ []))
     ∷ row "ABACDDC" mask (some (122 ∷ []))
-    ∷ row "ABACDDC" (endsIn 2) (some (3 ∷ 7 ∷ []))
+    ∷ row "ABACDDC" (splitIn 2) (some (2 ∷ 3 ∷ 7 ∷ []))
     ∷ row "ABACDDC" moved (some (10 ∷ []))
     ∷ row "AABACABAA" (radiusAt 10) (some (4 ∷ []))
     ∷ row "AABACABAA" (radiusAt 11) (some (0 ∷ []))
@@ -65,7 +66,7 @@ abbrev pub bookFor : List ℕ → Question → Book
 bookFor u mask = book mostSections u
 bookFor u visits = book mostSections (take (length u - 1) u)
 bookFor u moved = book mostSections u
-bookFor u (endsIn k) = book mostSections u
+bookFor u (splitIn k) = book mostSections u
 bookFor u (radiusAt c) = book mostSections u
 
 abbrev pub lastPick : List ℕ → ℕ
@@ -75,7 +76,7 @@ abbrev pub callFor : List ℕ → Question → (list : List ℕ) → Call
 callFor u mask list = calls.ask (calls.mask (length u))
 callFor u visits list = calls.feed (lastPick u) list
 callFor u moved list = calls.ask calls.longest
-callFor u (endsIn k) list = calls.ask (calls.split (length u) k list)
+callFor u (splitIn k) list = calls.ask (calls.split (length u) k list)
 callFor u (radiusAt c) list = calls.ask (calls.radius c)
 
 -- how many entries are lent: 19 to a feed, k to a split
@@ -83,7 +84,7 @@ abbrev pub entries : Question → ℕ
 entries mask = 0
 entries visits = mostVisits
 entries moved = 0
-entries (endsIn k) = k
+entries (splitIn k) = k
 entries (radiusAt c) = 0
 
 -- the reply that has the answer: moved is the centre given, minus 1; no split is number 9, and the list as it was
@@ -93,7 +94,7 @@ replyWith u mask (some values) list = reply (gave values) []
 replyWith u visits (some lengths) list =
     reply (gave (fedMask (bookFor u visits) (lastPick u) ∷ length lengths ∷ [])) (filled lengths list)
 replyWith u moved (some values) list = reply (gave (map suc values)) []
-replyWith u (endsIn k) (some ends) list = reply (gave (length ends ∷ [])) (filled ends list)
+replyWith u (splitIn k) (some values) list = reply (gave (take 1 values)) (filled (drop 1 values) list)
 replyWith u (radiusAt c) (some values) list = reply (gave values) []
 
 -- for any list of so many entries

@@ -1,21 +1,21 @@
 -- How the calls on lent parts meet their promises: refused under their number, or accepted with what was read.
-use mathlib.Core.Path.{_≡_, refl, sym, ap, _∙_}
+use mathlib.Core.Path.{_≡_, refl, sym, ap, ap₂, _∙_}
 use mathlib.Core.Bool.{Bool, true, false, true≢false, false≢true}
-use mathlib.Core.List.{List, [], _∷_, _++_}
+use mathlib.Core.List.{List, [], _∷_}
 use mathlib.Core.Option.{Option, some, none}
 use Prim.Native.Nat.{ℕ, _≤_, _<_}
 use native.Mathlib.Omega.{arith}
-use lib.ListN.{length, take, drop}
+use lib.ListN.{length, take}
 use lib.Seq.{take-at}
 use Rattle.cells.specs.declared.Numbers.{Numbers}
-use Rattle.words.specs.Definitions.{word}
+use Rattle.words.specs.Definitions.{word, turnCount}
 use Rattle.models.specs.Stores.{at, sets-front}
 use Rattle.models.specs.Iterator.{longestOf}
 use Rattle.models.specs.Splitting.{splitBy}
-use Rattle.models.specs.SplitCode.{Stores, split-length}
+use Rattle.models.specs.SplitCode.{Stores, split-ends}
 use Rattle.promises.specs.declared.Draft.{Draft}
 use Rattle.promises.specs.declared.LiftAnswer.the-variants.{Lift, Refused as LiftRefused}
-use Rattle.promises.specs.Answers.{gave, refused, Reply, reply}
+use Rattle.promises.specs.Answers.{gave, refused, Reply, reply, filled}
 use Rattle.promises.specs.Refusals.{liftRefusal}
 use Rattle.layout.specs.Record.{recordOf}
 use Rattle.promises.specs.Lifts.{lift}
@@ -73,52 +73,54 @@ module _ (held : Numbers) (d : Draft) (h : numbersOf d ≡ held) where
 
 -- What the search told and stored
 
-module _ (rows R : List ℕ) (n s k i : ℕ) where
-  found : Option (List ℕ)
-  found = splitBy rows R n s k i
+module _ (rows R : List ℕ) (n s k i : ℕ) (before : List ℕ) (b : Bool) (after : List ℕ) (h : Stores (splitBy rows R n s k i) before b after) where
+  -- no split
+  none-found : b ≡ false → (splitBy rows R n s k i ≡ none) × (after ≡ before)
+  none-found t = go (splitBy rows R n s k i) (rw t at h)
+    where
+      go : (o : Option (List ℕ)) → Stores o before false after → (o ≡ none) × (after ≡ before)
+      go none g = (refl, g .list)
+      go (some ends) g = absurd (false≢true (g .tells))
 
-  -- into the lent list
-  module _ (before : List ℕ) (b : Bool) (after : List ℕ) (h : Stores (splitBy rows R n s k i) before b after) where
-    pub split-lacking : b ≡ false → reply (refused 9) after ≡ splitReply (splitBy rows R n s k i) before
-    unfolding orNoSplit found
-    split-lacking t = go found (rw t at h)
-      where
-        go : (o : Option (List ℕ)) → Stores o before false after → reply (refused 9) after ≡ splitReply o before
-        go none h = ap (reply (refused 9)) (h .list)
-        go (some ends) h = absurd (false≢true (h .tells))
+  -- a split, its ends in front of the list
+  record Ends : Type 0 where
+    ends : List ℕ
+    is : splitBy rows R n s k i ≡ some ends
+    list : after ≡ filled ends before
+    front : take k after ≡ ends
 
-    pub split-given : k ≤ length before → b ≡ true → reply (gave (k ∷ [])) after ≡ splitReply (splitBy rows R n s k i) before
-    unfolding orNoSplit found
-    split-given room t = go found refl (rw t at h)
-      where
-        go : (o : Option (List ℕ)) → found ≡ o → Stores o before true after → reply (gave (k ∷ [])) after ≡ splitReply o before
-        go none q h = absurd (true≢false (h .tells))
-        go (some ends) q h =
-            let c : length ends ≡ k = split-length rows R n s k i ends q in
-            rw (c, h .list) (ap (reply (gave (k ∷ []))) (sets-front ends before (omega (arith, c)) ∙ ap (λ x. ends ++ drop x before) c))
+  ends-found : b ≡ true → k ≤ length before → Ends
+  ends-found t room = go (splitBy rows R n s k i) refl (rw t at h)
+    where
+      go : (o : Option (List ℕ)) → splitBy rows R n s k i ≡ o → Stores o before true after → Ends
+      go none e g = absurd (true≢false (g .tells))
+      go (some ends) e g =
+          let c : length ends ≡ k = split-ends rows R n s k i ends e .0 in
+          let l : after ≡ filled ends before = g .list ∙ sets-front ends before (omega (arith, c)) in
+          record { ends = ends; is = e; list = l; front = ap (take k) l ∙ take-at ends _ k c }
 
-  -- into an array for the record's ends
-  module _ (w : ℕ → ℕ) (output list : List ℕ) (b : Bool) (stores : List ℕ) (h : Stores (splitBy rows R n s k i) list b stores) where
-    pub record-lacking : b ≡ false → reply (refused 9) output ≡ recordReply w i (splitBy rows R n s k i) output
-    unfolding orNoSplit found
-    record-lacking t = go found (rw t at h)
-      where
-        go : (o : Option (List ℕ)) → Stores o list false stores → reply (refused 9) output ≡ recordReply w i o output
-        go none h = refl
-        go (some ends) h = absurd (false≢true (h .tells))
+  pub split-lacking : b ≡ false → reply (refused 9) after ≡ splitReply (splitBy rows R n s k i) before
+  unfolding orNoSplit
+  split-lacking t = let f = none-found t in ap (reply (refused 9)) (f .1) ∙ sym (ap (λ o. splitReply o before) (f .0))
 
-    -- part is what was stored of the ends: the first k entries of a list of k or more
-    pub record-given : (r : Reply) (part : List ℕ) → b ≡ true → k ≤ length list → part ≡ take k stores → r ≡ orTooLong (recordOf w i part) output
+  pub record-lacking : (w : ℕ → ℕ) (output : List ℕ) → b ≡ false → reply (refused 9) output ≡ recordReply w i (splitBy rows R n s k i) output
+  unfolding orNoSplit
+  record-lacking w output t = sym (ap (λ o. recordReply w i o output) (none-found t .0))
+
+  -- part is what was stored of the ends: the first k entries of a list of k or more
+  module _ (part : List ℕ) (p : part ≡ take k after) (t : b ≡ true) (room : k ≤ length before) where
+    pub split-given : (turns : ℕ) → turns ≡ turnCount part → reply (gave (turns ∷ [])) after ≡ splitReply (splitBy rows R n s k i) before
+    unfolding orNoSplit
+    split-given turns q =
+        let f = ends-found t room in
+        ap₂ (λ x list. reply (gave (x ∷ [])) list) (q ∙ ap turnCount (p ∙ f .front)) (f .list) ∙ sym (ap (λ o. splitReply o before) (f .is))
+
+    pub record-given : (w : ℕ → ℕ) (output : List ℕ) (r : Reply) → r ≡ orTooLong (recordOf w i part) output
         → r ≡ recordReply w i (splitBy rows R n s k i) output
-    unfolding orNoSplit found
-    record-given r part t room p q = q ∙ go found refl (rw t at h)
-      where
-        go : (o : Option (List ℕ)) → found ≡ o → Stores o list true stores → orTooLong (recordOf w i part) output ≡ recordReply w i o output
-        go none q h = absurd (true≢false (h .tells))
-        go (some ends) q h =
-            let c : length ends ≡ k = split-length rows R n s k i ends q in
-            let t : part ≡ ends = p ∙ ap (take k) (h .list ∙ sets-front ends list (omega (arith, c))) ∙ take-at ends _ k c in
-            ap (λ x. orTooLong (recordOf w i x) output) t
+    unfolding orNoSplit
+    record-given w output r q =
+        let f = ends-found t room in
+        q ∙ ap (λ x. orTooLong (recordOf w i x) output) (p ∙ f .front) ∙ sym (ap (λ o. recordReply w i o output) (f .is))
 
 -- Lift
 

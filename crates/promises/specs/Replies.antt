@@ -6,7 +6,7 @@ use mathlib.Core.Option.{Option, some, none}
 use Prim.Native.Nat.{ℕ, zero, suc, _-_}
 use lib.Dec.{leb}
 use lib.ListN.{length, take, drop, getD}
-use Rattle.words.specs.Definitions.{word}
+use Rattle.words.specs.Definitions.{word, turnCount}
 use Rattle.words.specs.Computed.{longestCentre, NextShorter, nextAfter, radiusAt, visits, splitOf}
 use Rattle.words.specs.Computed.{mask as maskOf}
 use Rattle.layout.specs.Record.{recordOf}
@@ -50,9 +50,9 @@ gives values = reply (gave values) []
 abbrev pub fedReply : (bits : ℕ) (lengths list : List ℕ) → Reply
 fedReply bits lengths list = reply (gave (bits ∷ length lengths ∷ [])) (filled lengths list)
 
--- "It fills the first k entries of a lent list"; "the turn count, which is the number of sections"
+-- "It fills the first k entries of a lent list"; "It also gives the turn count", which is document 02's
 abbrev pub splitReply : (found : Option (List ℕ)) (list : List ℕ) → Reply
-splitReply found list = orNoSplit found list (λ ends. reply (gave (length ends ∷ [])) (filled ends list))
+splitReply found list = orNoSplit found list (λ ends. reply (gave (turnCount ends ∷ [])) (filled ends list))
 
 -- w are the letters
 abbrev pub recordReply : (w : ℕ → ℕ) (i : ℕ) (found : Option (List ℕ)) (output : List ℕ) → Reply

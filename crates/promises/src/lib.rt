@@ -79,7 +79,7 @@ pub enum NextAnswer {
 }
 
 pub enum SplitAnswer {
-    // The turn count.
+    // The turn count: how many sections have two or more picks.
     Split(usize),
     Refused(u8),
 }

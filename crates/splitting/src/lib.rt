@@ -1,8 +1,10 @@
-// The search for the split named: from the last section back to the first, each section's start tried from place 0 upward.
+// The search for the split named: from the last section back to the first, each section's start tried from place 0 upward;
+// and the turn count of a split.
 ghost use mathlib.Core.Path.{_≡_};
+ghost use mathlib.Core.List.{[], _∷_};
 ghost use Prim.Native.Nat.{_+_, _<_, _≤_};
 ghost use lib.Dec.{eqb};
-ghost use Rattle.words.specs.Definitions.{mostPicks, mostSections, bit};
+ghost use Rattle.words.specs.Definitions.{mostPicks, mostSections, turnsOf, turnCount, bit};
 ghost use Rattle.models.specs.Iterator.{longestOf};
 ghost use Rattle.models.specs.Splitting.{startsAt, firstStart, splitBy};
 ghost use Rattle.models.specs.SplitCode.{Stores};
@@ -12,9 +14,12 @@ use cells::ByPlace;
 use cells::Centre;
 use cells::Numbers;
 use cells::Place;
+use cells::at;
 use cells::at_place;
+use cells::minus;
 use cells::narrow;
 use cells::store;
+use cells::wide;
 use iterator::reading::radius_at;
 
 // Whether the row word has bit k.
@@ -93,4 +98,27 @@ pub fn split_from(
             false
         }
     }
+}
+
+// A section of two or more picks makes a turn.
+fn turns_in(len: usize) -> usize
+    ensures { λ r. ⌜ (r ≡ turnsOf (len ∷ [])) × (r ≤ 1) ⌝ }
+{
+    if 2 <= len { 1 } else { 0 }
+}
+
+// The turn count of the split with these ends.
+pub fn turn_count(ends: &[u16]) -> usize
+    ensures { λ r. ⌜ r ≡ turnCount (now (ends .entry)) ⌝ }
+{
+    let mut turns = 0usize;
+    let mut a = 0usize;
+    let mut j = 0usize;
+    while j < ends.len() {
+        let e = wide(at(ends, j));
+        turns = turns + turns_in(minus(e, a));
+        a = e;
+        j = j + 1;
+    }
+    turns
 }

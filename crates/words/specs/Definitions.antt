@@ -1,11 +1,13 @@
--- The terms of document 01 and of the paper (document 004), each once.
+-- The terms of documents 01 and 02 and of the paper (document 004), each once.
 --
 -- A word is a function from positions to letters; positions are counted from 0, picks from 1, so pick i is the letter at i - 1.
 -- A stretch of a word is given by its last pick and its length.
 use mathlib.Core.Path.{_≡_}
 use mathlib.Core.Logic.{_↔_, _≢_}
+use mathlib.Core.Bool.{cond}
 use mathlib.Core.List.{List, [], _∷_, _++_, reverse, List·Memᴰ}
 use Prim.Native.Nat.{ℕ, zero, suc, _+_, _-_, _*_, _/_, _%_, _^_, min, _≤_, _<_}
+use lib.Dec.{leb}
 use lib.ListN.{length, getD}
 
 -- The numbers of document 01.
@@ -203,6 +205,15 @@ Before s t = Smaller (lengthsBack 0 t) (lengthsBack 0 s)
 pub record Named (w : ℕ → ℕ) (n k : ℕ) (ends : List ℕ) : Type 0 where
   pub is : Split w n k ends
   pub first : (t : List ℕ) → Split w n k t → t ≢ ends → Before ends t
+
+-- "the number of its sections with two or more picks" (document 02, 2.4): by their lengths
+abbrev pub turnsOf : (lengths : List ℕ) → ℕ
+turnsOf [] = 0
+turnsOf (len ∷ lengths) = cond (leb 2 len) 1 0 + turnsOf lengths
+
+-- "The turn count of a split", by its ends
+abbrev pub turnCount : (ends : List ℕ) → ℕ
+turnCount ends = turnsOf (lengthsBack 0 ends)
 
 -- ends "rising strictly from above 0 to exactly the number of lent letters": here from above a to n
 pub data Rising (n : ℕ) : ℕ → List ℕ → Type 0 where

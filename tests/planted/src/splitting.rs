@@ -1,5 +1,5 @@
 //! The search for the split named: from the last section back to the first, each
-//! section's start tried from place 0 upward.
+//! section's start tried from place 0 upward; and the turn count of its ends.
 
 use crate::cells::{at_place, store, ByCentre, ByPlace, Centre, Numbers, Place};
 use crate::iterator::reading::radius_at;
@@ -59,4 +59,24 @@ pub fn split_from(
         return true;
     }
     false
+}
+
+/// A section of two or more picks makes a turn.
+fn turns_in(len: usize) -> usize {
+    if 2 <= len {
+        return 1;
+    }
+    0
+}
+
+/// The turn count of the split with these ends.
+pub fn turn_count(ends: &[u16]) -> usize {
+    let mut turns = 0;
+    let mut a = 0;
+    for &end in ends {
+        let e = usize::from(end);
+        turns += turns_in(e.saturating_sub(a));
+        a = e;
+    }
+    turns
 }

@@ -21,11 +21,8 @@ pub fn show_number(letters: &[u8], ends: &[u16], s: usize) -> Refusal {
 /// strictly from above 0 to exactly the number of lent letters."
 fn check(letters: &[u8], ends: &[u16], s: usize) -> Answer<()> {
     refuse_if(!(1..=ends.len()).contains(&s), PLACE_OUT_OF_RANGE)?;
-    let ends = whole_numbers(ends);
-    let from_above_0 = ends[0] > 0;
-    let rising = ends.windows(2).all(|pair| pair[0] < pair[1]);
-    let to_the_end = ends[ends.len() - 1] == letters.len();
-    refuse_if(!(from_above_0 && rising && to_the_end), ENDS_NOT_RISING)
+    let rising = plain::are_ends(&whole_numbers(ends), letters.len());
+    refuse_if(!rising, ENDS_NOT_RISING)
 }
 
 /// The 16-bit ends as numbers of picks.

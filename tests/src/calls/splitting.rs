@@ -5,7 +5,7 @@ use crate::plain;
 
 /// "Split: a prefix i and a k. It fills the first k entries of a lent list of
 /// 16-bit numbers with the last pick numbers of the sections, rising." "It also
-/// gives the turn count, which is the number of sections."
+/// gives the turn count."
 pub fn split(state: &State, i: usize, k: usize, ends_list: &mut [u16]) -> Answer<usize> {
     state.check()?;
     state.check_sections(k)?;
@@ -13,7 +13,7 @@ pub fn split(state: &State, i: usize, k: usize, ends_list: &mut [u16]) -> Answer
     state.check_prefix(i)?;
     let ends = named_ends(state, i, k)?;
     write_front(ends_list, &ends);
-    Ok(ends.len())
+    Ok(plain::turn_count(&ends))
 }
 
 /// "Folded record of prefix i in k sections, by the split just named, into a lent

@@ -61,6 +61,11 @@ impl Board {
         &self.centres.inner()[lane * CENTRES..][..CENTRES]
     }
 
+    /// A lane by place, to write any entry of it.
+    pub fn place_lane_mut(&mut self, lane: usize) -> &mut [u16] {
+        &mut self.places.inner_mut()[lane * PLACES..][..PLACES]
+    }
+
     /// A lane by place.
     pub fn place_lane(&self, lane: usize) -> &[u16] {
         &self.places.inner()[lane * PLACES..][..PLACES]

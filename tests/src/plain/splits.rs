@@ -22,6 +22,14 @@ pub fn all_splits(prefix: &[u8], k: usize) -> Vec<Vec<usize>> {
         .collect()
 }
 
+/// Whether numbers can be the ends of sections of so many picks: "rising strictly from
+/// above 0 to exactly the number".
+pub fn are_ends(ends: &[usize], picks: usize) -> bool {
+    let from_above_0 = ends.first().is_some_and(|&end| end > 0);
+    let rising = ends.windows(2).all(|pair| pair[0] < pair[1]);
+    from_above_0 && rising && ends.last() == Some(&picks)
+}
+
 /// The lengths of the sections that end at the given pick numbers.
 pub fn section_lengths(ends: &[usize]) -> Vec<usize> {
     (0..ends.len())
@@ -33,6 +41,13 @@ pub fn section_lengths(ends: &[usize]) -> Vec<usize> {
             }
         })
         .collect()
+}
+
+/// "The turn count of a split is therefore the number of its sections with two or more
+/// picks."
+pub fn turn_count(ends: &[usize]) -> usize {
+    let lengths = section_lengths(ends).into_iter();
+    lengths.filter(|&picks| picks >= 2).count()
 }
 
 /// "Of all splits it is the one whose last section is longest, then the one

@@ -11,7 +11,7 @@ pub enum Turn {
 }
 
 /// The turn of the section with this first and this last pick: its centre, in whole
-/// picks.
+/// picks. "A section read from a record still names its middle", also one of one pick.
 pub fn turn(first: usize, last: usize) -> Turn {
     let half_picks = centre(first, last);
     if half_picks % 2 == 0 {

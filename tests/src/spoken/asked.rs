@@ -2,6 +2,7 @@
 
 use super::lent::Lent;
 use crate::calls::{self, Answer, State};
+use crate::plain::{are_ends, turn_count};
 use crate::scripted::Call;
 
 /// A call with its arguments, those beyond their fields included. Prefixes are in whole
@@ -100,6 +101,18 @@ impl Asked {
                     && length_at(next) == Some(length - period)
             }
             _ => values.len() == self.values(),
+        }
+    }
+
+    /// Whether the accepted call with these values can leave what it was lent so, on any
+    /// stored state: a split fills in ends of its prefix, and gives their turn count.
+    pub fn can_leave(self, values: &[usize], lent: &Lent) -> bool {
+        match (self, lent) {
+            (Asked::Split { prefix, k, .. }, Lent::List(entries)) => {
+                let ends: Vec<usize> = entries[..k].iter().map(|&end| end.into()).collect();
+                are_ends(&ends, prefix) && values == [turn_count(&ends)]
+            }
+            _ => true,
         }
     }
 

@@ -89,9 +89,9 @@ fn is_possible(answer: &str, asked: Asked, n: usize, all: bool) -> bool {
     };
     let fits = asked.can_give(&values, n) && asked.given(&values) <= untouched.size();
     let after = fits.then(|| after(tail, asked.given(&values), untouched));
-    after
-        .flatten()
-        .is_some_and(|after| answer == line(&Ok(values), asked, &after, all))
+    after.flatten().is_some_and(|after| {
+        asked.can_leave(&values, &after) && answer == line(&Ok(values), asked, &after, all)
+    })
 }
 
 /// What was lent with its first entries or bytes as the text gives them; none where it

@@ -7,6 +7,7 @@ use comparison::beside::{BYTE, ENTRY};
 use comparison::calls::Refusal;
 use comparison::library::Board;
 use comparison::listed::{found, listed};
+use comparison::plain::{are_ends, turn_count};
 use comparison::scripted::{Call, Reply, VALUES};
 use comparison::VISIT_ROOM;
 use std::fmt::Display;
@@ -14,8 +15,9 @@ pub use told::is_told;
 
 /// Makes a call on any stored state. "There 1 to 4 and 8 still hold, and beyond them
 /// the call need only end within bounds." A refusal keeps every byte, and so does a
-/// reading call of the state; an accepted call keeps the entries past those named.
-/// Gives the number that it is refused with.
+/// reading call of the state; an accepted call keeps the entries past those named, and an
+/// accepted split counts the turns of the ends that it gives. Gives the number that it is
+/// refused with.
 pub fn make_within_bounds(board: &mut Board, call: Call, step: impl Display) -> Option<Refusal> {
     let (n, most_sections) = (board.n(), board.most_sections());
     let case = || format!("{call:?}, n {n}, K {most_sections}, {step}");
@@ -34,6 +36,8 @@ pub fn make_within_bounds(board: &mut Board, call: Call, step: impl Display) -> 
     assert!(fit, "more than is lent: {reply:?}, {}", case());
     let kept = list[entries..].iter().all(|&entry| entry == ENTRY);
     assert!(kept, "list {list:?}, {}", case());
+    let counted = is_counted(call, reply, &list[..entries]);
+    assert!(counted, "{reply:?}, ends {list:?}, {}", case());
     let kept = output[bytes..].iter().all(|&byte| byte == BYTE);
     assert!(kept, "output {output:?}, {}", case());
     let stored = [board.n(), board.most_sections()];
@@ -60,6 +64,18 @@ fn are_possible(values: [usize; VALUES], call: Call, n: usize) -> bool {
         (Call::NextEnding { centre }, _) => is_told(values, usize::from(centre), n),
         (Call::Feed { .. }, [_, visits, 0]) => visits <= VISIT_ROOM,
         (_, [_, second, third]) => [second, third] == [0, 0],
+    }
+}
+
+/// Whether an accepted split has filled in ends of its prefix, and gives their turn count:
+/// the number of sections with two or more picks.
+pub fn is_counted(call: Call, reply: Reply, ends: &[u16]) -> bool {
+    match (call, reply) {
+        (Call::Split { prefix, .. }, Ok([turns, ..])) => {
+            let ends: Vec<usize> = ends.iter().map(|&end| end.into()).collect();
+            are_ends(&ends, prefix.into()) && turns == turn_count(&ends)
+        }
+        _ => true,
     }
 }
 

@@ -2,7 +2,7 @@
 
 use crate::cells::{ByCentre, ByPlace, Numbers, Place};
 use crate::refusals::split_refusal;
-use crate::splitting::split_from;
+use crate::splitting::{split_from, turn_count};
 use crate::state::Answer;
 
 /// Puts the ends to the front of the list; gives the turn count. 9: there is no split.
@@ -16,7 +16,7 @@ pub fn split(
 ) -> Answer<usize> {
     split_refusal(held, i, k, ends.len())?;
     if split_from(rows, radius, held, i, k, ends) {
-        return Ok(k);
+        return Ok(turn_count(&ends[..k]));
     }
     Err(9)
 }

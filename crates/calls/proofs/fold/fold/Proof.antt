@@ -70,8 +70,8 @@ returns-2 c =
     let r = s .split-from in
     given-on (a .held) _ (fold (a .i .0) (a .k) (a .output .now)) (f .result) (f .ensures) (z .if1 .left) _ (λ d h p.
     record-in (a .held) d h (a .letters .now) (a .rows .now) (a .radius .now) (a .i .0) (a .k) (a .output .now) _ (p .0) (p .1) (p .2)
-    (record-given (a .rows .now) (a .radius .now) (a .held .n) (longestOf (a .held .n) (a .held .longest .0)) (a .k) (a .i .0) (word (a .letters .now)) (a .output .now)
-    _ (r .result) _ (r .ensures) _ _ (y .if2 .taken) (omega (arith, g .most, g .state .most)) refl (w .write-record .ensures)))
+    (record-given (a .rows .now) (a .radius .now) (a .held .n) (longestOf (a .held .n) (a .held .longest .0)) (a .k) (a .i .0) _ (r .result) _ (r .ensures)
+    _ refl (y .if2 .taken) (omega (arith, g .most, g .state .most)) (word (a .letters .now)) (a .output .now) _ (w .write-record .ensures)))
 
 returns-3 : tie.Need-returns-3
 unfolding refusalOf
@@ -84,8 +84,8 @@ returns-3 c =
     let r = s .split-from in
     given-on (a .held) _ (fold (a .i .0) (a .k) (a .output .now)) (f .result) (f .ensures) (z .if1 .left) _ (λ d h p.
     record-in (a .held) d h (a .letters .now) (a .rows .now) (a .radius .now) (a .i .0) (a .k) (a .output .now) _ (p .0) (p .1) (p .2)
-    (record-lacking (a .rows .now) (a .radius .now) (a .held .n) (longestOf (a .held .n) (a .held .longest .0)) (a .k) (a .i .0) (word (a .letters .now)) (a .output .now)
-    _ (r .result) _ (r .ensures) (c .if2 .left)))
+    (record-lacking (a .rows .now) (a .radius .now) (a .held .n) (longestOf (a .held .n) (a .held .longest .0)) (a .k) (a .i .0) _ (r .result) _ (r .ensures)
+    (word (a .letters .now)) (a .output .now) (c .if2 .left)))
 
 pub fold-spec : {M : Type 1} → statement M
 fold-spec =
