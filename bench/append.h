@@ -1,18 +1,20 @@
 // The iterator and the engine of document 004, Sections 3 and 4, with no bounds checks: what the library is measured
-// against. Places are in whole picks, centres in half picks. The file that includes this has plain.h, the function's
-// name as APPEND, and next_leading: the length of the leading ending after that of length len and least period p.
+// against. As the library does, it takes a pick's code, which is its lift, from a table of 26, stores letter and code,
+// and compares codes. Places are in whole picks, centres in half picks. The file that includes this has plain.h, the
+// function's name as APPEND, and next_leading: the length of the leading ending after that of length len and least
+// period p.
 
 static size_t least(size_t a, size_t b) { return a < b ? a : b; }
 
 // The centre of the longest ending of the n picks and one more. Fills the radii up to it, and lends each centre before
 // it to the place where its stretch starts.
-static size_t longest_ending(const uint8_t *letters, uint16_t *radius, uint16_t *heads, uint16_t *lends, size_t n,
-                             size_t longest, uint8_t pick) {
+static size_t longest_ending(const uint8_t *codes, uint16_t *radius, uint16_t *heads, uint16_t *lends, size_t n,
+                             size_t longest, uint8_t code) {
     size_t c = longest;
     for (; c < 2 * n + 2; c++) {
         size_t r = least(radius[2 * longest - c], n - c / 2);
         size_t start = (c + 1) / 2 - (r + 1); // picks before the stretch
-        if (c / 2 + r == n && start > 0 && letters[start - 1] == pick) {
+        if (c / 2 + r == n && start > 0 && codes[start - 1] == code) {
             radius[c] = r + 1;
             return c;
         }
@@ -58,14 +60,16 @@ static size_t visit(const uint16_t *next, uint16_t *rows, uint16_t *gathered, ui
     return count;
 }
 
-size_t APPEND(uint8_t *letters, uint16_t *radius, uint16_t *heads, uint16_t *lends, uint16_t *next, uint16_t *prev,
-              uint16_t *rows, uint16_t *gathered, uint16_t *visits, size_t n, uint8_t k, size_t longest, uint8_t pick,
-              size_t *answer) {
+size_t APPEND(uint8_t *letters, uint8_t *codes, const uint8_t *lifts, uint16_t *radius, uint16_t *heads,
+              uint16_t *lends, uint16_t *next, uint16_t *prev, uint16_t *rows, uint16_t *gathered, uint16_t *visits,
+              size_t n, uint8_t k, size_t longest, uint8_t pick, size_t *answer) {
     if (n >= BOARD_PICKS || k < 1 || k > BOARD_SECTIONS)
         return 0;
     unsigned row;
-    size_t c = longest_ending(letters, radius, heads, lends, n, longest, pick);
+    uint8_t code = lifts[pick - 'A'];
+    size_t c = longest_ending(codes, radius, heads, lends, n, longest, code);
     letters[n] = pick;
+    codes[n] = code;
     relink(heads, lends, next, prev, n + 1, c);
     answer[1] = visit(next, rows, gathered, visits, n + 1, k, c, &row);
     answer[0] = row;

@@ -4,6 +4,7 @@
 #include "measured.h"
 
 #include <stdio.h>
+#include <string.h>
 
 enum { PREFIX_STEP = 8, STATES = 500 };
 
@@ -20,6 +21,22 @@ static void starts(void) {
     on_draft(BOARD_START_CALL, BOARD_SECTIONS, 0, 0);
 }
 
+// A table with a 0 at each place, of one byte too few and one too many, of none, and one that is taken: on an empty
+// draft, which has the fixed table again afterwards.
+static void loads(void) {
+    memset(table, UINT8_MAX, sizeof table);
+    for (size_t place = 0; place < BOARD_ALPHABET; place++) {
+        table[place] = 0;
+        on_draft(BOARD_LOAD_CALL, 0, 0, BOARD_ALPHABET);
+        table[place] = UINT8_MAX;
+    }
+    on_draft(BOARD_LOAD_CALL, 0, 0, 0);
+    on_draft(BOARD_LOAD_CALL, 0, 0, BOARD_ALPHABET - 1);
+    on_draft(BOARD_LOAD_CALL, 0, 0, BOARD_ALPHABET + 1);
+    on_draft(BOARD_LOAD_CALL, 0, 0, BOARD_ALPHABET);
+    on_draft(BOARD_START_CALL, BOARD_SECTIONS, 0, 0);
+}
+
 // Each pick of the draft, and the longest ending after it. Of each refusal one: no letter, a short list, a full draft.
 static void feeds(const struct draft *draft) {
     on_draft(BOARD_FEED_CALL, 'a', 0, BOARD_VISITS);
@@ -31,7 +48,7 @@ static void feeds(const struct draft *draft) {
     on_draft(BOARD_FEED_CALL, 'A', 0, BOARD_VISITS);
 }
 
-// Every prefix and every centre, and those beside.
+// Every prefix and every centre, and those beside; every byte as a letter; and a load, which comes too late.
 static void questions(void) {
     for (size_t i = 0; i <= BOARD_PICKS + 1; i++)
         on_draft(BOARD_MASK_CALL, 0, i, 0);
@@ -39,6 +56,9 @@ static void questions(void) {
         on_draft(BOARD_RADIUS_CALL, 0, centre, 0);
         on_draft(BOARD_NEXT_CALL, 0, centre, 0);
     }
+    for (size_t letter = 0; letter <= UINT8_MAX; letter++)
+        on_draft(BOARD_LIFT_CALL, letter, 0, 0);
+    on_draft(BOARD_LOAD_CALL, 0, 0, BOARD_ALPHABET);
 }
 
 // Unfolds the record of prefix i in k sections, with too little lent and without its end too, and reads each section.
@@ -75,14 +95,12 @@ static void splits(void) {
     }
 }
 
-// Sections of one pick each, and every byte as a letter.
+// Sections of one pick each.
 static void no_state(void) {
     for (size_t i = 0; i < BOARD_PICKS; i++)
         list[i] = (uint16_t)(i + 1);
     for (size_t s = 0; s <= BOARD_PICKS + 1; s++)
         on_draft(SHOW_CALL, s, BOARD_PICKS, BOARD_PICKS);
-    for (size_t letter = 0; letter <= UINT8_MAX; letter++)
-        on_draft(LIFT_CALL, letter, 0, 0);
 }
 
 static void fill(uint8_t *bytes, size_t count, uint64_t *seed) {
@@ -90,10 +108,11 @@ static void fill(uint8_t *bytes, size_t count, uint64_t *seed) {
         bytes[i] = (uint8_t)random_number(seed);
 }
 
-// A record and a state of random bytes, with n up to 2,048 and K of 1 to 9: 9 is no draft's. In every other one a feed
-// looks at each centre.
+// A record, a table and a state of random bytes, with n up to 2,048 and K of 1 to 9: 9 is no draft's. In every other
+// one a feed looks at each centre.
 static void any_state(size_t number, uint64_t *seed) {
     fill(record, sizeof record, seed);
+    fill(table, sizeof table, seed);
     fill((uint8_t *)&board, sizeof board, seed);
     board.numbers[BOARD_N] = number % 2 ? BOARD_PICKS - 1 : random_number(seed) % (BOARD_PICKS + 1);
     board.numbers[BOARD_K] = 1 + random_number(seed) % (BOARD_SECTIONS + 1);
@@ -104,7 +123,7 @@ static void any_state(size_t number, uint64_t *seed) {
 static void any_calls(uint64_t *seed) {
     size_t n = board.numbers[BOARD_N], k = 1 + random_number(seed) % board.numbers[BOARD_K];
     size_t i = random_number(seed) % (n + 1), centre = 1 + random_number(seed) % (2 * n + 1);
-    size_t letter = 'A' + random_number(seed) % 26;
+    size_t letter = 'A' + random_number(seed) % BOARD_ALPHABET;
     const struct asked all[] = {
         {BOARD_SPLIT_CALL, k, i, BOARD_SECTIONS},
         {SHOW_CALL, k, i, k},
@@ -113,11 +132,12 @@ static void any_calls(uint64_t *seed) {
         {BOARD_RADIUS_CALL, 0, centre, 0},
         {BOARD_LONGEST_CALL, 0, 0, 0},
         {BOARD_NEXT_CALL, 0, centre, 0},
-        {LIFT_CALL, letter, 0, 0},
+        {BOARD_LIFT_CALL, letter, 0, 0},
         {UNFOLD_CALL, 0, BOARD_RECORD, BOARD_PICKS},
         {SECTION_CALL, 0, BOARD_RECORD, 0},
         {BOARD_FEED_CALL, letter, 0, BOARD_VISITS},
         {BOARD_START_CALL, k, 0, 0},
+        {BOARD_LOAD_CALL, 0, 0, BOARD_ALPHABET},
     };
     for (size_t call = 0; call < sizeof all / sizeof all[0]; call++)
         measure(OF_BYTES, all[call]);
@@ -130,6 +150,7 @@ static void measure_all(void) {
     make_drafts(drafts);
     for (int i = 0; i < DRAFTS; i++) {
         starts();
+        loads();
         feeds(&drafts[i]);
         questions();
         splits();
@@ -154,6 +175,7 @@ int main(void) {
     printf("| Call | Stack, bytes | of it the library | Median, µs | Longest, µs | Longest on random bytes, µs |\n");
     printf("|---|---|---|---|---|---|\n");
     print_row(BOARD_START_CALL, "start");
+    print_row(BOARD_LOAD_CALL, "load");
     print_row(BOARD_FEED_CALL, "feed");
     print_row(BOARD_MASK_CALL, "mask");
     print_row(BOARD_RADIUS_CALL, "radius");
@@ -161,8 +183,8 @@ int main(void) {
     print_row(BOARD_NEXT_CALL, "next shorter ending");
     print_row(BOARD_SPLIT_CALL, "split");
     print_row(BOARD_RECORD_CALL, "folded record");
+    print_row(BOARD_LIFT_CALL, "lift");
     print_row(SHOW_CALL, "show");
-    print_row(LIFT_CALL, "lift");
     print_row(UNFOLD_CALL, "unfold");
     print_row(SECTION_CALL, "section of a record");
     return 0;

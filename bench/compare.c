@@ -18,6 +18,8 @@ static int part_differs(const char *case_name, const char *part, const void *giv
 static int state_differs(const char *case_name, const struct state *given, const struct state *plain) {
     const struct board *a = &given->board, *b = &plain->board;
     return part_differs(case_name, "letters", a->letters, b->letters, sizeof b->letters) ||
+           part_differs(case_name, "codes", a->codes, b->codes, sizeof b->codes) ||
+           part_differs(case_name, "lifts", a->lifts, b->lifts, sizeof b->lifts) ||
            part_differs(case_name, "lanes by centre", a->centres, b->centres, sizeof b->centres) ||
            part_differs(case_name, "lanes by place", a->places, b->places, sizeof b->places) ||
            part_differs(case_name, "numbers", a->numbers, b->numbers, sizeof b->numbers) ||

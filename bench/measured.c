@@ -11,6 +11,7 @@ enum { REPETITIONS = 5 };
 
 struct board board;
 uint16_t list[BOARD_PICKS];
+uint8_t table[MOST_TABLE];
 uint8_t record[BOARD_RECORD];
 struct tally tallies[CALLS];
 
@@ -22,6 +23,7 @@ static size_t given;
 // The calls through the header, each with what is asked at present. Each gives its number: 0 or the refusal; section,
 // which has none, its turn.
 static void make_start(void) { given = board_start(&board, current.b).number; }
+static void make_load(void) { given = board_load(&board, table, current.m).number; }
 static void make_feed(void) { given = board_feed(&board, current.b, list, current.m).number; }
 static void make_mask(void) { given = board_mask(&board, board_prefix(current.x)).number; }
 static void make_radius(void) { given = board_radius(&board, board_centre_at(current.x)).number; }
@@ -33,8 +35,8 @@ static void make_split(void) {
 static void make_record(void) {
     given = board_record(&board, board_prefix(current.x), current.b, output, current.m).number;
 }
+static void make_lift(void) { given = board_lift(&board, current.b).number; }
 static void make_show(void) { given = board_show(board.letters, current.x, list, current.m, current.b).number; }
-static void make_lift(void) { given = board_lift(current.b).number; }
 static void make_unfold(void) { given = board_unfold(record, current.x, picks, current.m).number; }
 static void make_section(void) { given = board_section_at(record, current.x, current.b).turn; }
 static void make_nothing(void) { given = 0; }
@@ -44,13 +46,13 @@ static uint8_t script[BOARD_CALL_SIZE];
 static size_t answers[BOARD_ANSWER_SIZE];
 
 static void drive_alone(void) {
-    given = drive(board.letters, board.centres, board.places, board.numbers, script, sizeof script, script, 0, list,
-                  BOARD_PICKS, output, sizeof output, answers, BOARD_ANSWER_SIZE);
+    given =
+        drive(board.letters, board.codes, board.lifts, board.centres, board.places, board.numbers, script,
+              sizeof script, table, sizeof table, list, BOARD_PICKS, output, sizeof output, answers, BOARD_ANSWER_SIZE);
 }
 static void show_alone(void) {
     given = drive_show(board.letters, current.x, list, current.m, current.b, output, 0, answers);
 }
-static void lift_alone(void) { given = drive_lift((uint8_t)current.b, answers); }
 static void unfold_alone(void) { given = drive_unfold(record, current.x, picks, current.m, answers); }
 static void section_alone(void) { given = drive_section(record, current.x, current.b, answers); }
 
@@ -63,8 +65,9 @@ static const struct {
     [BOARD_SPLIT_CALL] = {make_split, drive_alone}, [BOARD_LONGEST_CALL] = {make_longest, drive_alone},
     [BOARD_MASK_CALL] = {make_mask, drive_alone},   [BOARD_RADIUS_CALL] = {make_radius, drive_alone},
     [BOARD_NEXT_CALL] = {make_next, drive_alone},   [BOARD_RECORD_CALL] = {make_record, drive_alone},
-    [SHOW_CALL] = {make_show, show_alone},          [LIFT_CALL] = {make_lift, lift_alone},
-    [UNFOLD_CALL] = {make_unfold, unfold_alone},    [SECTION_CALL] = {make_section, section_alone},
+    [BOARD_LIFT_CALL] = {make_lift, drive_alone},   [BOARD_LOAD_CALL] = {make_load, drive_alone},
+    [SHOW_CALL] = {make_show, show_alone},          [UNFOLD_CALL] = {make_unfold, unfold_alone},
+    [SECTION_CALL] = {make_section, section_alone},
 };
 
 // The seconds of the quickest of a few calls, each from the state before: an interruption by the system is not counted.

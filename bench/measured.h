@@ -5,7 +5,7 @@
 #include "board.h"
 
 // The calls that are given no state, numbered after those of a script.
-enum { SHOW_CALL = BOARD_CALLS, LIFT_CALL, UNFOLD_CALL, SECTION_CALL, CALLS };
+enum { SHOW_CALL = BOARD_CALLS, UNFOLD_CALL, SECTION_CALL, CALLS };
 
 // What a call is asked: the letter, K, k, the section or the place in the record; the prefix, the centre, or the count
 // of letters or of the record's bytes; the entries or bytes that it is lent.
@@ -29,9 +29,14 @@ struct tally {
     double seconds[MOST_CASES];
 };
 
-// The state, the list that calls are lent, which show takes as ends, and the record that unfold and section are lent.
+// The most bytes of a table that is loaded: one too many.
+enum { MOST_TABLE = BOARD_ALPHABET + 1 };
+
+// The state, the list that calls are lent, which show takes as ends, the table that load is lent, and the record that
+// unfold and section are lent.
 extern struct board board;
 extern uint16_t list[BOARD_PICKS];
+extern uint8_t table[MOST_TABLE];
 extern uint8_t record[BOARD_RECORD];
 
 extern struct tally tallies[CALLS];

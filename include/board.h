@@ -18,6 +18,7 @@ extern "C" {
 
 enum {
     BOARD_PICKS = 2048,    // the most picks of a draft
+    BOARD_ALPHABET = 26,   // the letters A to Z: entries of a table of lifts
     BOARD_SECTIONS = 8,    // the most sections that are asked for
     BOARD_VISITS = 19,     // the fewest entries of a visit list
     BOARD_RECORD = 1088,   // bytes that hold any folded record
@@ -47,12 +48,16 @@ enum {
     BOARD_RADIUS_CALL,
     BOARD_NEXT_CALL,
     BOARD_RECORD_CALL,
+    BOARD_LIFT_CALL,
+    BOARD_LOAD_CALL,
     BOARD_CALLS
 };
 
 // The stored state. One of zeros is no draft yet: each call but a start is refused with 7.
 struct board {
     uint8_t letters[BOARD_PICKS];
+    uint8_t codes[BOARD_PICKS];    // of each pick the lift, by the table in force when it was fed: what is compared
+    uint8_t lifts[BOARD_ALPHABET]; // the table in force, A to Z
     uint16_t centres[BOARD_CENTRE_LANES][BOARD_CENTRES];
     uint16_t places[BOARD_PLACE_LANES][BOARD_PLACES];
     size_t numbers[BOARD_NUMBERS];
@@ -60,25 +65,25 @@ struct board {
 
 BOARD_ASSERT(sizeof(size_t) == 8);
 BOARD_ASSERT(offsetof(struct board, letters) == 0);
-BOARD_ASSERT(offsetof(struct board, centres) == 2048);
-BOARD_ASSERT(offsetof(struct board, places) == 34832);
-BOARD_ASSERT(offsetof(struct board, numbers) == 47128);
-BOARD_ASSERT(sizeof(struct board) == 47152);
+BOARD_ASSERT(offsetof(struct board, codes) == 2048);
+BOARD_ASSERT(offsetof(struct board, lifts) == 4096);
+BOARD_ASSERT(offsetof(struct board, centres) == 4122);
+BOARD_ASSERT(offsetof(struct board, places) == 36906);
+BOARD_ASSERT(offsetof(struct board, numbers) == 49200);
+BOARD_ASSERT(sizeof(struct board) == 49224);
 
 // The library's functions. A slice is its pointer, which is not null, and its length; none may overlap another.
 
 // Makes the calls of the script, one after the other, and gives their number.
-size_t drive(uint8_t letters[BOARD_PICKS], uint16_t centres[BOARD_CENTRE_LANES][BOARD_CENTRES],
-             uint16_t places[BOARD_PLACE_LANES][BOARD_PLACES], size_t numbers[BOARD_NUMBERS], const uint8_t *script,
-             size_t script_len, const uint8_t *input, size_t input_len, uint16_t *lists, size_t lists_len,
-             uint8_t *bytes, size_t bytes_len, size_t *answers, size_t answers_len);
+size_t drive(uint8_t letters[BOARD_PICKS], uint8_t codes[BOARD_PICKS], uint8_t lifts[BOARD_ALPHABET],
+             uint16_t centres[BOARD_CENTRE_LANES][BOARD_CENTRES], uint16_t places[BOARD_PLACE_LANES][BOARD_PLACES],
+             size_t numbers[BOARD_NUMBERS], const uint8_t *script, size_t script_len, const uint8_t *input,
+             size_t input_len, uint16_t *lists, size_t lists_len, uint8_t *bytes, size_t bytes_len, size_t *answers,
+             size_t answers_len);
 
 // Section s of the letters, as far as it fits the part. The answer: the refusal or 0, and the section's length.
 size_t drive_show(const uint8_t *letters, size_t letters_len, const uint16_t *ends, size_t ends_len, size_t s,
                   uint8_t *part, size_t part_len, size_t answer[2]);
-
-// The lift of a letter. The answer: 0 and the lift, or 1 and the refusal.
-size_t drive_lift(uint8_t letter, size_t answer[2]);
 
 // Unfolds a record: its picks fill the front of the list. The answer: 0 and the count of picks; 1 and the refusal; or
 // 2, the refusal and its place.
@@ -113,6 +118,10 @@ static inline struct board_centre board_centre_at(size_t half_picks) {
 struct board_start_answer {
     size_t number;
 };
+struct board_load_answer {
+    size_t number;
+    size_t place; // of the lift that is refused, counted from 0; 0 where the number names none
+};
 struct board_feed_answer {
     size_t number;
     uint8_t mask;
@@ -144,14 +153,14 @@ struct board_record_answer {
     size_t number;
     size_t bytes;
 };
+struct board_lift_answer {
+    size_t number;
+    uint8_t lift;
+};
 struct board_show_answer {
     size_t number;
     const uint8_t *part; // of the letters that were lent
     size_t len;
-};
-struct board_lift_answer {
-    size_t number;
-    uint8_t lift;
 };
 struct board_unfold_answer {
     size_t number;
@@ -194,37 +203,42 @@ static inline void board_write_call(uint8_t call[BOARD_CALL_SIZE], size_t number
     call[5] = (uint8_t)(m >> 8);
 }
 
-// What is lent to a call beside the state: a list, an output or nothing. A null pointer lends nothing, whatever is said
-// of its size.
+// What is lent to a call beside the state: a list, an output, an input, which is only read, or nothing. A null pointer
+// lends nothing, whatever is said of its size.
 struct board_lent {
     uint16_t *list;
     size_t entries;
     uint8_t *output;
     size_t bytes;
+    const uint8_t *input;
+    size_t input_bytes;
 };
 
-// What one call answered: 0 or the number, and the values.
+// What one call answered: 0 and the values, or the number and the place that it names.
 struct board_reply {
     size_t number;
+    size_t place;
     size_t first;
     size_t second;
     size_t third;
 };
 
-// A script of one call, with all that it is lent.
+// A script of one call, with all that it is lent; the call is told of as much of it as its field can hold.
 static inline struct board_reply board_make(struct board *board, size_t call_number, size_t b, size_t x,
                                             struct board_lent lent) {
-    uint8_t call[BOARD_CALL_SIZE], no_byte = 0;
+    uint8_t call[BOARD_CALL_SIZE], no_byte = 0, no_input = 0;
     uint16_t no_entry = 0;
     size_t answer[BOARD_ANSWER_SIZE] = {1, BOARD_NOT_MADE, 0, 0};
-    struct board_reply reply = {0, 0, 0, 0};
+    struct board_reply reply = {0, 0, 0, 0, 0};
     size_t entries = lent.list ? lent.entries : 0, bytes = lent.output ? lent.bytes : 0;
-    board_write_call(call, call_number, b, x, entries ? entries : bytes);
-    drive(board->letters, board->centres, board->places, board->numbers, call, sizeof call, &no_byte, 0,
-          lent.list ? lent.list : &no_entry, entries, lent.output ? lent.output : &no_byte, bytes, answer,
-          BOARD_ANSWER_SIZE);
+    size_t input_bytes = lent.input ? lent.input_bytes : 0;
+    board_write_call(call, call_number, b, x, entries ? entries : bytes ? bytes : input_bytes);
+    drive(board->letters, board->codes, board->lifts, board->centres, board->places, board->numbers, call, sizeof call,
+          lent.input ? lent.input : &no_input, input_bytes, lent.list ? lent.list : &no_entry, entries,
+          lent.output ? lent.output : &no_byte, bytes, answer, BOARD_ANSWER_SIZE);
     if (answer[0]) {
         reply.number = answer[1];
+        reply.place = answer[2];
     } else {
         reply.first = answer[1];
         reply.second = answer[2];
@@ -234,26 +248,39 @@ static inline struct board_reply board_make(struct board *board, size_t call_num
 }
 
 static inline struct board_lent board_nothing(void) {
-    struct board_lent lent = {NULL, 0, NULL, 0};
+    struct board_lent lent = {NULL, 0, NULL, 0, NULL, 0};
     return lent;
 }
 
 static inline struct board_lent board_list(uint16_t *list, size_t entries) {
-    struct board_lent lent = {list, entries, NULL, 0};
+    struct board_lent lent = {list, entries, NULL, 0, NULL, 0};
     return lent;
 }
 
 static inline struct board_lent board_output(uint8_t *output, size_t bytes) {
-    struct board_lent lent = {NULL, 0, output, bytes};
+    struct board_lent lent = {NULL, 0, output, bytes, NULL, 0};
+    return lent;
+}
+
+static inline struct board_lent board_input(const uint8_t *input, size_t bytes) {
+    struct board_lent lent = {NULL, 0, NULL, 0, input, bytes};
     return lent;
 }
 
 // The calls that write the state
 
-// Start: an empty draft with K, whatever was stored.
+// Start: an empty draft with K and the fixed table of lifts, whatever was stored.
 static inline struct board_start_answer board_start(struct board *board, size_t k) {
     struct board_reply reply = board_make(board, BOARD_START_CALL, k, 0, board_nothing());
     struct board_start_answer answer = {reply.number};
+    return answer;
+}
+
+// Load: a table of lifts, A to Z, is in force until the next start: 26 bytes, none of them 0; harness h is bit h - 1.
+// Letters that lift alike are the same pick. It is loaded before the first pick.
+static inline struct board_load_answer board_load(struct board *board, const uint8_t *table, size_t count) {
+    struct board_reply reply = board_make(board, BOARD_LOAD_CALL, 0, 0, board_input(table, count));
+    struct board_load_answer answer = {reply.number, reply.place};
     return answer;
 }
 
@@ -312,6 +339,13 @@ static inline struct board_record_answer board_record(struct board *board, struc
     return answer;
 }
 
+// The lift of a letter by the table in force: harness h is bit h - 1.
+static inline struct board_lift_answer board_lift(struct board *board, size_t letter) {
+    struct board_reply reply = board_make(board, BOARD_LIFT_CALL, letter, 0, board_nothing());
+    struct board_lift_answer answer = {reply.number, (uint8_t)reply.first};
+    return answer;
+}
+
 // The calls that are given no state
 
 // Show section s, counted from 1, of letters that the ends divide: that part of the letters themselves, an empty one
@@ -330,18 +364,6 @@ static inline struct board_show_answer board_show(const uint8_t *letters, size_t
         shown.len = answer[1];
     }
     return shown;
-}
-
-// The lift of a letter: harness h is bit h - 1.
-static inline struct board_lift_answer board_lift(size_t letter) {
-    size_t answer[2] = {0};
-    struct board_lift_answer lift = {0, 0};
-    drive_lift((uint8_t)board_field(letter, UINT8_MAX), answer);
-    if (answer[0])
-        lift.number = answer[1];
-    else
-        lift.lift = (uint8_t)answer[1];
-    return lift;
 }
 
 // Unfold a record: its picks fill the front of the list.

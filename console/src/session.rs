@@ -2,13 +2,14 @@
 
 use crate::arrays::{lengths, peek, poke, store};
 use crate::printed::{answer, ok, text, Lent};
-use crate::stateless::{lift_of, section_at, show_section};
-use crate::words::{bytes_of, number, pick, words, Wrong};
+use crate::stateless::{section_at, show_section};
+use crate::words::{bytes_of, exact, number, pick, words, Wrong};
 use board::{unfold, Board, Centre, Place, Refusal, VISITS};
 
 /// How each call is written.
-const CALLS: [&str; 18] = [
+const CALLS: [&str; 19] = [
     "start K",
+    "load BYTE..",
     "feed PICK [ENTRIES]",
     "picks LETTERS",
     "mask I",
@@ -17,8 +18,8 @@ const CALLS: [&str; 18] = [
     "next C",
     "split I K [ENTRIES]",
     "record I K [BYTES]",
-    "show LETTERS S END..",
     "lift LETTER",
+    "show LETTERS S END..",
     "unfold TEXT [BYTES]",
     "section TEXT AT",
     "numbers [N K C]",
@@ -54,6 +55,12 @@ fn entries_for(k: usize) -> usize {
     k.min(usize::from(u8::MAX))
 }
 
+/// The bytes of a table, each by its number.
+fn table(words: &[&[u8]]) -> Result<Vec<u8>, Wrong> {
+    let byte = |word: &&[u8]| exact(word, u8::MAX.into()).map(|byte| byte as u8);
+    words.iter().map(byte).collect()
+}
+
 /// A board, zeros at first, and whether all that is lent is printed.
 pub struct Session {
     board: Board,
@@ -84,6 +91,7 @@ impl Session {
     fn call(&mut self, words: &[&[u8]]) -> Result<String, Wrong> {
         Ok(match *words {
             [b"start", k] => self.start(number(k)?),
+            [b"load", ref bytes @ ..] => self.load(&table(bytes)?),
             [b"feed", word] => self.feed(pick(word)?, VISITS),
             [b"feed", word, entries] => self.feed(pick(word)?, number(entries)?),
             [b"mask", i] => self.mask(number(i)?),
@@ -94,8 +102,8 @@ impl Session {
             [b"split", i, k, entries] => self.split(number(i)?, number(k)?, number(entries)?),
             [b"record", i, k] => self.record(number(i)?, number(k)?, OUTPUT),
             [b"record", i, k, bytes] => self.record(number(i)?, number(k)?, number(bytes)?),
+            [b"lift", letter] => self.lift(pick(letter)?),
             [b"show", word, s, ref ends @ ..] => show_section(&bytes_of(word)?, number(s)?, ends)?,
-            [b"lift", letter] => lift_of(pick(letter)?),
             [b"unfold", word] => self.unfold(&bytes_of(word)?, OUTPUT),
             [b"unfold", word, bytes] => self.unfold(&bytes_of(word)?, number(bytes)?),
             [b"section", word, at] => section_at(&bytes_of(word)?, number(at)?),
@@ -112,6 +120,11 @@ impl Session {
 
     fn start(&mut self, k: usize) -> String {
         let reply = self.board.start(k).map(|()| vec![]);
+        answer(reply, &Lent::Nothing, self.all)
+    }
+
+    fn load(&mut self, table: &[u8]) -> String {
+        let reply = self.board.load(table).map(|()| vec![]);
         answer(reply, &Lent::Nothing, self.all)
     }
 
@@ -166,6 +179,11 @@ impl Session {
         let mut output = output(bytes);
         let written = self.board.record(Place(i), k, &mut output);
         self.filled(written, &output)
+    }
+
+    fn lift(&mut self, letter: u8) -> String {
+        let reply = self.board.lift(letter).map(|lift| vec![lift.into()]);
+        answer(reply, &Lent::Nothing, self.all)
     }
 
     fn unfold(&self, record: &[u8], bytes: usize) -> String {

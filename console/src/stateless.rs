@@ -1,19 +1,14 @@
 //! The calls that are given no state and write nothing.
 
-use crate::printed::{ok, refused, shown};
+use crate::printed::{refused, shown};
 use crate::words::{exact, Wrong};
-use board::{lift, section, show, Section, Turn};
+use board::{section, show, Section, Turn};
 
 /// The answer of show.
 pub fn show_section(letters: &[u8], s: usize, words: &[&[u8]]) -> Result<String, Wrong> {
     let end = |word: &&[u8]| exact(word, u16::MAX.into()).map(|end| end as u16);
     let ends: Vec<u16> = words.iter().map(end).collect::<Result<_, _>>()?;
     Ok(show(letters, &ends, s).map_or_else(refused, shown))
-}
-
-/// The answer of lift.
-pub fn lift_of(letter: u8) -> String {
-    lift(letter).map_or_else(refused, |lift| ok(&[lift.into()]))
 }
 
 /// The answer of section.

@@ -3,14 +3,14 @@
 use crate::functions::drive;
 use crate::refusal::Refusal;
 use crate::script::{
-    call, values, ANSWER_NUMBERS, CALL_BYTES, FEED, LONGEST_ENDING, MASK, NEXT_SHORTER, RADIUS_AT,
-    RECORD, SPLIT, START,
+    call, values, ANSWER_NUMBERS, CALL_BYTES, FEED, LIFT, LOAD, LONGEST_ENDING, MASK, NEXT_SHORTER,
+    RADIUS_AT, RECORD, SPLIT, START,
 };
 use crate::state::{Centre, Place, State};
 
 /// A board: the stored state, and the calls on it.
 ///
-/// Every call takes `&mut self`: start and feed change the state, and the library writes the
+/// Every call takes `&mut self`: start, load and feed change the state, and the library writes the
 /// three numbers back also where it changes nothing.
 #[derive(Clone, Debug, PartialEq, Eq)]
 pub struct Board {
@@ -58,7 +58,8 @@ impl Board {
         }
     }
 
-    /// Start: an empty draft with K, whatever was stored. Refused with 1.
+    /// Start: an empty draft with K and the fixed table of lifts, whatever was stored. Refused
+    /// with 1.
     ///
     /// ```
     /// let mut board = board::Board::new();
@@ -68,6 +69,39 @@ impl Board {
     /// ```
     pub fn start(&mut self, k: usize) -> Result<(), Refusal> {
         self.ask(START, k, 0)?;
+        Ok(())
+    }
+
+    /// Load: a table of lifts, A to Z, is in force until the next start. Harness h is bit h - 1, and
+    /// letters that lift alike are the same pick. Refused with 7, with 14, with 15, and then a place
+    /// of the table, or with 16; the former table stays in force.
+    ///
+    /// ```
+    /// # use board::{Board, ALPHABET, VISITS};
+    /// # let mut board = Board::new();
+    /// # board.start(8)?;
+    /// // A and B lift harness 1, every other letter all eight.
+    /// let mut table = [255; ALPHABET];
+    /// table[..2].fill(1);
+    /// board.load(&table)?;
+    /// assert_eq!(board.lift(b'B'), Ok(1));
+    /// let mut visits = [0; VISITS];
+    /// board.feed(b'A', &mut visits)?;
+    /// assert_eq!(board.feed(b'B', &mut visits)?.mask, 0b11);
+    /// assert_eq!(board.load(&table).unwrap_err().number(), 16);
+    /// assert_eq!(board.load(&table[1..]).unwrap_err().number(), 14);
+    /// assert_eq!(board.load(&[1; 65_536 + 26]).unwrap_err().number(), 14);
+    /// table[25] = 0;
+    /// let refusal = board.load(&table).unwrap_err();
+    /// assert_eq!((refusal.number(), refusal.place()), (15, Some(25)));
+    /// // A start brings the fixed table back.
+    /// board.start(8)?;
+    /// assert_eq!(board.lift(b'B'), Ok(0b101));
+    /// # Ok::<(), board::Refusal>(())
+    /// ```
+    pub fn load(&mut self, table: &[u8]) -> Result<(), Refusal> {
+        let call = call(LOAD, 0, 0, table.len());
+        self.make(call, table, &mut [], &mut [])?;
         Ok(())
     }
 
@@ -90,7 +124,7 @@ impl Board {
     /// ```
     pub fn feed(&mut self, pick: u8, visits: &mut [u16]) -> Result<Taken, Refusal> {
         let call = call(FEED, pick.into(), 0, visits.len());
-        let [mask, visits, _] = self.make(call, visits, &mut [])?;
+        let [mask, visits, _] = self.make(call, &[], visits, &mut [])?;
         Ok(Taken {
             mask: mask as u8,
             visits,
@@ -197,7 +231,7 @@ impl Board {
     /// ```
     pub fn split(&mut self, prefix: Place, k: usize, ends: &mut [u16]) -> Result<usize, Refusal> {
         let call = call(SPLIT, k, prefix.0, ends.len());
-        let [turns, ..] = self.make(call, ends, &mut [])?;
+        let [turns, ..] = self.make(call, &[], ends, &mut [])?;
         Ok(turns)
     }
 
@@ -220,12 +254,28 @@ impl Board {
     /// ```
     pub fn record(&mut self, prefix: Place, k: usize, output: &mut [u8]) -> Result<usize, Refusal> {
         let call = call(RECORD, k, prefix.0, output.len());
-        let [bytes, ..] = self.make(call, &mut [], output)?;
+        let [bytes, ..] = self.make(call, &[], &mut [], output)?;
         Ok(bytes)
     }
 
-    /// Many calls: those of the script, one after the other, as far as script, lists, bytes and
-    /// answers go. Gives their number. `docs/HOSTS.md` has the script's bytes and the answers.
+    /// The lift of a letter by the table in force: harness h is bit h - 1. Refused with 7 or 2.
+    ///
+    /// ```
+    /// # use board::Board;
+    /// # let mut board = Board::new();
+    /// # board.start(8)?;
+    /// assert_eq!(board.lift(b'A'), Ok(0b11));
+    /// assert_eq!(board.lift(b'Z'), Ok(96));
+    /// assert_eq!(board.lift(64).unwrap_err().number(), 2);
+    /// # Ok::<(), board::Refusal>(())
+    /// ```
+    pub fn lift(&mut self, letter: u8) -> Result<u8, Refusal> {
+        let [lift, ..] = self.ask(LIFT, letter.into(), 0)?;
+        Ok(lift as u8)
+    }
+
+    /// Many calls: those of the script, one after the other, as far as script, input, lists, bytes
+    /// and answers go. Gives their number. `docs/HOSTS.md` has the script's bytes and the answers.
     ///
     /// ```
     /// # use board::{Board, ANSWER_NUMBERS};
@@ -249,6 +299,8 @@ impl Board {
         unsafe {
             drive(
                 state.letters.as_mut_ptr(),
+                state.codes.as_mut_ptr(),
+                state.lifts.as_mut_ptr(),
                 state.centres.as_mut_ptr().cast(),
                 state.places.as_mut_ptr().cast(),
                 state.numbers.as_mut_ptr(),
@@ -268,18 +320,19 @@ impl Board {
 
     /// The values of a call that is lent nothing.
     fn ask(&mut self, number: u8, b: usize, x: usize) -> Result<[usize; 3], Refusal> {
-        self.make(call(number, b, x, 0), &mut [], &mut [])
+        self.make(call(number, b, x, 0), &[], &mut [], &mut [])
     }
 
-    /// The values of one call, lent a list or an output.
+    /// The values of one call, lent an input, a list or an output.
     fn make(
         &mut self,
         call: [u8; CALL_BYTES],
+        input: &[u8],
         list: &mut [u16],
         output: &mut [u8],
     ) -> Result<[usize; 3], Refusal> {
         let mut answer = [0; ANSWER_NUMBERS];
-        let made = self.drive(&call, &[], list, output, &mut answer);
+        let made = self.drive(&call, input, list, output, &mut answer);
         assert_eq!(made, 1, "calls made of {call:?}");
         values(answer)
     }

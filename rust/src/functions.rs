@@ -3,10 +3,13 @@
 
 extern "C" {
     /// Makes the calls of a script one after the other on the state, which is the
-    /// letters, the lanes by centre, the lanes by place and the three numbers n, K
-    /// and the centre of the longest ending. Gives the number of calls made.
+    /// letters, the codes of the picks, the table of lifts, the lanes by centre, the
+    /// lanes by place and the three numbers n, K and the centre of the longest ending.
+    /// Gives the number of calls made.
     pub fn drive(
         letters: *mut u8,
+        codes: *mut u8,
+        lifts: *mut u8,
         centres: *mut u16,
         places: *mut u16,
         numbers: *mut usize,
@@ -34,10 +37,6 @@ extern "C" {
         part_len: usize,
         answer: *mut usize,
     ) -> usize;
-
-    /// The lift of a letter. The answer is 0 and the lift, or 1 and the refusal
-    /// number.
-    pub fn drive_lift(letter: u8, answer: *mut usize) -> usize;
 
     /// Unfolds a record: its picks fill the front of the list. The answer is 0 and
     /// the count of picks, 1 and the refusal number, or 2, the refusal number and its

@@ -36,7 +36,7 @@ pub use reader::{section, unfold, Reader, Section, Turn};
 pub use refusal::{Refusal, Sentence, SENTENCES};
 pub use script::{ANSWER_NUMBERS, CALL_BYTES};
 pub use state::{
-    Centre, Place, State, CENTRES, CENTRE_LANES, GATHERED, HEADS, K, LENDS, LONGEST, N, NEXT,
-    NUMBERS, PICKS, PLACES, PLACE_LANES, PREV, RADIUS, ROWS, SECTIONS, VISITS,
+    Centre, Place, State, ALPHABET, CENTRES, CENTRE_LANES, GATHERED, HEADS, K, LENDS, LONGEST, N,
+    NEXT, NUMBERS, PICKS, PLACES, PLACE_LANES, PREV, RADIUS, ROWS, SECTIONS, VISITS,
 };
-pub use stateless::{lift, show};
+pub use stateless::show;

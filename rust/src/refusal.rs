@@ -6,7 +6,9 @@ use core::fmt::{self, Display, Formatter};
 /// Why a call was refused: it has changed nothing.
 ///
 /// ```
-/// let refusal = board::lift(b'a').unwrap_err();
+/// let mut board = board::Board::new();
+/// board.start(8)?;
+/// let refusal = board.lift(b'a').unwrap_err();
 /// assert_eq!(refusal.number(), 2);
 /// assert_eq!(refusal.place(), None);
 /// assert_eq!(refusal.sentence().means, "the byte is not a letter A to Z");
@@ -18,6 +20,7 @@ use core::fmt::{self, Display, Formatter};
 /// let refusal = board::unfold(b"7x", &mut []).unwrap_err();
 /// assert_eq!(refusal.place(), Some(1));
 /// assert!(refusal.to_string().starts_with("refused with 11 at place 1: "));
+/// # Ok::<(), board::Refusal>(())
 /// ```
 #[derive(Clone, Copy, Debug, PartialEq, Eq)]
 pub struct Refusal {
@@ -35,7 +38,7 @@ pub struct Sentence {
 }
 
 /// The sentences of the numbers, from 1 on.
-pub const SENTENCES: [Sentence; 13] = [
+pub const SENTENCES: [Sentence; 16] = [
     Sentence {
         means: "K is not 1 to 8, or k is not 1 to K",
         remedy: "start with a K of 1 to 8; ask for at most K sections",
@@ -87,6 +90,18 @@ pub const SENTENCES: [Sentence; 13] = [
     Sentence {
         means: "the ends list has under k entries",
         remedy: "lend split an ends list of k entries or more; 8 serve for every k",
+    },
+    Sentence {
+        means: "the table is not 26 bytes",
+        remedy: "load one byte for each letter, A to Z",
+    },
+    Sentence {
+        means: "a lift of the table is 0, the first one at the place given",
+        remedy: "look at that byte of the table, counted from 0, which is A's: each letter lifts one harness or more",
+    },
+    Sentence {
+        means: "the draft is not empty",
+        remedy: "start, load the table, then feed the picks",
     },
 ];
 

@@ -5,7 +5,8 @@ use crate::refusal::Refusal;
 /// Bytes of a script for each call.
 pub const CALL_BYTES: usize = 6;
 
-/// Numbers of the answer to each call: 0 and the values, or 1, the refusal number and zeros.
+/// Numbers of the answer to each call: 0 and the values; 1 and the refusal number; or 2, that number
+/// and the place that it names. Zeros behind them.
 pub const ANSWER_NUMBERS: usize = 4;
 
 /// The calls by their numbers in a script.
@@ -17,6 +18,8 @@ pub(crate) const MASK: u8 = 4;
 pub(crate) const RADIUS_AT: u8 = 5;
 pub(crate) const NEXT_SHORTER: u8 = 6;
 pub(crate) const RECORD: u8 = 7;
+pub(crate) const LIFT: u8 = 8;
+pub(crate) const LOAD: u8 = 9;
 
 /// The number in a field of one byte: 255 for a larger one.
 fn byte(number: usize) -> u8 {
@@ -38,6 +41,7 @@ pub(crate) fn call(number: u8, b: usize, x: usize, m: usize) -> [u8; CALL_BYTES]
 pub(crate) fn values(answer: [usize; ANSWER_NUMBERS]) -> Result<[usize; 3], Refusal> {
     match answer {
         [0, values @ ..] => Ok(values),
-        [_, number, ..] => Err(Refusal::under(number)),
+        [1, number, ..] => Err(Refusal::under(number)),
+        [_, number, place, _] => Err(Refusal::at(number, place)),
     }
 }

@@ -1,7 +1,10 @@
-//! The stored state: letters, lanes by centre and by place, and three numbers.
+//! The stored state: letters, codes, lifts, lanes by centre and by place, and three numbers.
 
 /// The most picks of a draft.
 pub const PICKS: usize = 2_048;
+
+/// The letters A to Z: entries of a table of lifts.
+pub const ALPHABET: usize = 26;
 
 /// The most sections that are asked for.
 pub const SECTIONS: usize = 8;
@@ -59,6 +62,10 @@ pub struct Centre(pub usize);
 pub struct State {
     /// The letters of the picks.
     pub letters: [u8; PICKS],
+    /// Of each pick the lift, by the table in force when it was fed: what is compared.
+    pub codes: [u8; PICKS],
+    /// The table of lifts in force, A to Z.
+    pub lifts: [u8; ALPHABET],
     /// The lanes by centre.
     pub centres: [[u16; CENTRES]; CENTRE_LANES],
     /// The lanes by place.
@@ -71,6 +78,8 @@ impl State {
     /// A state of zeros, which is no draft yet.
     pub const ZEROS: State = State {
         letters: [0; PICKS],
+        codes: [0; PICKS],
+        lifts: [0; ALPHABET],
         centres: [[0; CENTRES]; CENTRE_LANES],
         places: [[0; PLACES]; PLACE_LANES],
         numbers: [0; NUMBERS],

@@ -1,6 +1,6 @@
-//! The calls that are given no state.
+//! The call that is given no state and no record.
 
-use crate::functions::{drive_lift, drive_show};
+use crate::functions::drive_show;
 use crate::refusal::Refusal;
 
 /// Section s, counted from 1, of letters that the ends divide: that part of the letters
@@ -34,21 +34,4 @@ pub fn show<'a>(letters: &'a [u8], ends: &[u16], s: usize) -> Result<&'a [u8], R
     }
     let end = usize::from(ends[s - 1]);
     Ok(&letters[end - length..end])
-}
-
-/// The lift of a letter: harness h is bit h - 1. Refused with 2.
-///
-/// ```
-/// assert_eq!(board::lift(b'A'), Ok(0b11));
-/// assert_eq!(board::lift(b'Z'), Ok(96));
-/// assert_eq!(board::lift(64).unwrap_err().number(), 2);
-/// ```
-pub fn lift(letter: u8) -> Result<u8, Refusal> {
-    let mut answer = [0; 2];
-    // SAFETY: the answer has its declared length.
-    unsafe { drive_lift(letter, answer.as_mut_ptr()) };
-    match answer {
-        [0, lift] => Ok(lift as u8),
-        [_, number] => Err(Refusal::under(number)),
-    }
 }

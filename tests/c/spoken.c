@@ -9,10 +9,10 @@
 
 // The most that is printed of what is lent, as much as the script's field can hold, and the most that is lent; the size
 // that is said of a null pointer; the most ends of a show; the longest line.
-enum { MOST_PRINTED = 65535, MOST_LENT = 70000, SAID_OF_NULL = 2048, MOST_ENDS = 4096, MOST_LINE = 1 << 16 };
+enum { MOST_PRINTED = 65535, MOST_LENT = 70000, SAID_OF_NULL = 2048, MOST_ENDS = 4096, MOST_LINE = 1 << 18 };
 
-// The number of the refusal that names a place.
-enum { NOT_A_RECORD = 11 };
+// The numbers of the refusals that name a place.
+enum { NOT_A_RECORD = 11, NO_LIFT = 15 };
 
 static struct board board;
 
@@ -100,6 +100,12 @@ static void print_value(size_t number, size_t value) {
         printf(" %zu", value);
 }
 
+// The place that a refusal names, and a place where it names none.
+static void print_place(size_t number, size_t place) {
+    if (number == NOT_A_RECORD || number == NO_LIFT || place)
+        printf(" %zu", place);
+}
+
 static void print_list(const uint16_t *list, size_t entries) {
     printf(" |");
     for (size_t i = 0; i < least(entries, MOST_PRINTED); i++)
@@ -117,6 +123,23 @@ static void print_text(const uint8_t *text, size_t length) {
 }
 
 static void start(void) { print_number(board_start(&board, number()).number, 0); }
+
+// A table of all bytes that the line has.
+static void load(void) {
+    static uint8_t read[MOST_LINE];
+    size_t count = 0;
+    for (const char *byte = word(); byte; byte = word())
+        read[count++] = (uint8_t)strtoul(byte, NULL, 10);
+    uint8_t *table = (uint8_t *)lend(count);
+    if (count)
+        memcpy(table, read, count);
+    struct board_load_answer answer = board_load(&board, table, said(count));
+    print_number(answer.number, 0);
+    print_place(answer.number, answer.place);
+    if (count && memcmp(table, read, count))
+        printf(" and a changed table");
+    free(table);
+}
 
 static void feed(void) {
     size_t pick = number(), entries = least(number_or(BOARD_VISITS), MOST_LENT);
@@ -187,19 +210,17 @@ static void show(void) {
 }
 
 static void lift(void) {
-    struct board_lift_answer answer = board_lift(number());
+    struct board_lift_answer answer = board_lift(&board, number());
     print_value(answer.number, answer.lift);
 }
 
-// The place that a refusal with 11 names is printed, and so is a place where none is named.
 static void unfold(void) {
     struct text record = lend_text();
     size_t entries = least(number_or(2048), MOST_LENT);
     uint8_t *picks = lend_output(entries);
     struct board_unfold_answer answer = board_unfold(record.bytes, said(record.length), picks, said(entries));
     print_value(answer.number, answer.picks);
-    if (answer.number == NOT_A_RECORD || answer.place)
-        printf(" %zu", answer.place);
+    print_place(answer.number, answer.place);
     print_text(picks, entries);
     free(record.bytes);
     free(picks);
@@ -231,12 +252,21 @@ static void section(void) {
     free(record.bytes);
 }
 
+// An entry of one of the stored arrays of bytes.
+static void peek(void) {
+    const char *name = word();
+    const uint8_t *bytes = !strcmp(name, "letters") ? board.letters
+                           : !strcmp(name, "codes") ? board.codes
+                                                    : board.lifts;
+    printf("ok %u", (unsigned)bytes[number()]);
+}
+
 static const struct {
     const char *word;
     void (*answer)(void);
-} calls[] = {{"start", start},     {"feed", feed}, {"mask", mask},     {"radius", radius},
-             {"longest", longest}, {"next", next}, {"split", split},   {"record", record},
-             {"show", show},       {"lift", lift}, {"unfold", unfold}, {"section", section}};
+} calls[] = {{"start", start},     {"load", load},     {"feed", feed},       {"mask", mask},     {"radius", radius},
+             {"longest", longest}, {"next", next},     {"split", split},     {"record", record}, {"lift", lift},
+             {"show", show},       {"unfold", unfold}, {"section", section}, {"peek", peek}};
 
 int main(void) {
     static char line[MOST_LINE];

@@ -4,8 +4,8 @@
 use crate::book::Book;
 use crate::calls::State;
 use crate::library::Board;
+use crate::plain::{fixed_lifts, Lifts};
 use crate::scripted::{given, Call, Reply};
-use crate::MOST_PICKS;
 
 /// What each entry of a lent list holds before a call.
 pub const ENTRY: u16 = 0xBEEF;
@@ -40,6 +40,19 @@ impl Beside {
             book: Book {
                 most_sections,
                 row: draft.to_vec(),
+                lifts: fixed_lifts(),
+            },
+        }
+    }
+
+    /// A run of a start on zeros, a load of these lifts and a feed of each pick.
+    pub fn fed_under(lifts: &Lifts, draft: &[u8], most_sections: usize) -> Beside {
+        Beside {
+            board: Board::fed_under(lifts, draft, most_sections),
+            book: Book {
+                most_sections,
+                row: draft.to_vec(),
+                lifts: *lifts,
             },
         }
     }
@@ -58,25 +71,31 @@ impl Beside {
         if call.only_reads() || given.0.is_err() {
             let kept = self.board == before;
             assert!(kept, "a byte of the state changed, {}", self.case(call));
+        } else if let Call::Load { .. } = call {
+            let kept = self.board.keeps_all_but_lifts(&before);
+            assert!(kept, "a byte beside the lifts, {}", self.case(call));
         }
         self.write(call, given.0.is_ok());
         given
     }
 
-    /// The same call by the definitions, on the book's K and letters alone. The
+    /// The same call by the definitions, on the book's K, letters and lifts alone. The
     /// first call is a start, which does not look at them.
     fn by_book(&self, call: Call) -> Outcome {
-        let mut state = state_of(&self.book);
+        let book = &self.book;
+        let mut state = State::of(&book.row, book.most_sections, &book.lifts);
         made(call, |list, output| call.make(&mut state, list, output))
     }
 
     /// Writes the call into the book. "A start or a feed is accepted exactly when the
-    /// book takes it." Then the stored n, K and letters are the book's.
+    /// book takes it", and so is a load. Then the stored n, K, letters and lifts are the
+    /// book's, and each pick's stored lift is the one by them.
     fn write(&mut self, call: Call, accepted: bool) {
         let case = self.case(call);
         let taken = match call {
             Call::Start { most_sections } => self.book.start(most_sections.into()),
             Call::Feed { pick, entries } => self.book.feed(pick, entries.into()),
+            Call::Load { table } => self.book.load(&table.bytes()),
             _ => accepted,
         };
         assert_eq!(accepted, taken, "accepted or not, {case}");
@@ -84,13 +103,15 @@ impl Beside {
         let stored = self.board.most_sections();
         assert_eq!(stored, self.book.most_sections, "stored K, {case}");
         assert!(self.board.letters() == self.book.row, "letters, {case}");
+        assert!(self.board.codes() == self.book.word(), "codes, {case}");
+        assert_eq!(self.board.lifts(), self.book.lifts, "lifts, {case}");
     }
 
     /// The call and the draft it is made on, for a failure.
     fn case(&self, call: Call) -> String {
         let row = String::from_utf8_lossy(&self.book.row);
-        let most_sections = self.book.most_sections;
-        format!("{call:?} on draft {row}, K {most_sections}")
+        let (most_sections, lifts) = (self.book.most_sections, self.book.lifts);
+        format!("{call:?} on draft {row}, K {most_sections}, lifts {lifts:?}")
     }
 }
 
@@ -100,15 +121,4 @@ fn made(call: Call, make: impl FnOnce(&mut [u16], &mut [u8]) -> Reply) -> Outcom
     let mut output = vec![BYTE; call.output_bytes()];
     let reply = make(&mut list, &mut output);
     (reply, list, output)
-}
-
-/// The comparison program's state with the book's K and letters.
-fn state_of(book: &Book) -> State {
-    let mut letters = [0; MOST_PICKS];
-    letters[..book.row.len()].copy_from_slice(&book.row);
-    State {
-        n: book.row.len(),
-        most_sections: book.most_sections,
-        letters,
-    }
 }

@@ -1,24 +1,27 @@
 //! The plain book, "kept beside a run, from the calls' arguments alone, the state
 //! not among them".
 
-use crate::plain::{is_most_sections, is_pick};
+use crate::plain::{fixed_lifts, is_most_sections, is_pick, word, Lifts};
 use crate::{MOST_PICKS, VISIT_ROOM};
 
-/// "It holds K and a row of letters." The first start of a run writes both.
+/// "It holds K and a row of letters", and "the plain book holds 26 lifts too". The first
+/// start of a run writes them all.
 #[derive(Clone, Debug, Default, PartialEq, Eq)]
 pub struct Book {
     pub most_sections: usize,
     pub row: Vec<u8>,
+    pub lifts: Lifts,
 }
 
 impl Book {
-    /// "A start with K from 1 to 8 writes K and clears the row." Tells whether the
-    /// book takes the start.
+    /// "A start with K from 1 to 8 writes K and clears the row"; the book takes the fixed
+    /// lifts "at each accepted start". Tells whether the book takes the start.
     pub fn start(&mut self, most_sections: usize) -> bool {
         let taken = is_most_sections(most_sections);
         if taken {
             self.most_sections = most_sections;
             self.row.clear();
+            self.lifts = fixed_lifts();
         }
         taken
     }
@@ -32,5 +35,23 @@ impl Book {
             self.row.push(pick);
         }
         taken
+    }
+
+    /// The book "takes those of a load of 26 bytes, none of them 0, while its row is
+    /// empty". Tells whether it takes them.
+    pub fn load(&mut self, table: &[u8]) -> bool {
+        match Lifts::try_from(table) {
+            Ok(lifts) if !lifts.contains(&0) && self.row.is_empty() => {
+                self.lifts = lifts;
+                true
+            }
+            _ => false,
+        }
+    }
+
+    /// The lifts of the row. The book takes none while a letter is in it, so that each
+    /// letter has here the lift that "the book held at that feed".
+    pub fn word(&self) -> Vec<u8> {
+        word(&self.lifts, &self.row)
     }
 }

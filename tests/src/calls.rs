@@ -1,14 +1,16 @@
-//! The twelve calls of document 01 and of request 2.1, with their refusals.
+//! The thirteen calls of document 01 and of requests 2.1 and 2.5, with their refusals.
 //!
 //! "Each call that is given a state, other than start, tests 7 first; every call
 //! then tests those input numbers whose inputs it has, in rising order but for 5,
-//! then 8, 9 or 10, then 5." Number 13 stands "in the same place of the order" as 3.
+//! then 8, 9 or 10, then 5." Number 13 stands "in the same place of the order" as 3; 14,
+//! 15 and 16 come "in this order after 7".
 //! "A refusal returns its number only; state and lent buffers keep every byte. On
 //! success, entries past those named keep theirs."
 
 mod asking;
 mod feeding;
 mod lifting;
+mod loading;
 mod reading;
 mod showing;
 mod splitting;
@@ -17,6 +19,7 @@ mod state;
 pub use asking::{longest_centre, mask_of_prefix, next_ending, radius_at, NextEnding};
 pub use feeding::{feed, start, Taken};
 pub use lifting::lift;
+pub use loading::load;
 pub use reading::{section_at, unfold, Section};
 pub use showing::{show, show_number};
 pub use splitting::{folded_record, split};
@@ -25,11 +28,11 @@ pub use state::State;
 /// A call's values, or the number it is refused with.
 pub type Answer<T> = Result<T, Refusal>;
 
-/// A refusal number, 1 to 13.
+/// A refusal number, 1 to 16.
 pub type Refusal = u8;
 
-/// A refusal of a call that reads a record: "a place coming beside the number where one
-/// is named".
+/// A refusal of a call with numbers that name a place: "a place coming beside the number
+/// where one is named".
 pub type Placed = (Refusal, Option<usize>);
 
 /// 1: K outside 1 to 8, or k outside 1 to K.
@@ -73,6 +76,15 @@ const LENGTHS_NOT_THE_PICKS: Refusal = 12;
 /// 13: ends list under k entries.
 const ENDS_TOO_SHORT: Refusal = 13;
 
+/// 14: not 26 bytes.
+const NOT_A_TABLE: Refusal = 14;
+
+/// 15: a lift of 0.
+const A_LIFT_OF_0: Refusal = 15;
+
+/// 16: the draft is not empty.
+const DRAFT_NOT_EMPTY: Refusal = 16;
+
 /// The refusal number when its line is met.
 fn refuse_if(met: bool, number: Refusal) -> Answer<()> {
     if met {
@@ -80,6 +92,11 @@ fn refuse_if(met: bool, number: Refusal) -> Answer<()> {
     } else {
         Ok(())
     }
+}
+
+/// A number that names no place.
+fn without_place(number: Refusal) -> Placed {
+    (number, None)
 }
 
 /// Writes lengths or pick numbers, none above 2,048, to the front of a lent list.

@@ -1,7 +1,7 @@
 //! The same questions for drafts of up to 2,048 picks, by textbook tables.
 //!
-//! Built once from a whole draft and K, it answers for every prefix of it. The
-//! table of mirrored stretches, the row words and the leading endings of a
+//! Built once from the word of a whole draft and K, it answers for every prefix of it.
+//! The table of mirrored stretches, the row words and the leading endings of a
 //! prefix depend on that prefix alone.
 
 mod centres;
@@ -20,10 +20,10 @@ struct Leading {
     period: usize,
 }
 
-/// A draft with its tables, one entry for each prefix, prefix 0 first.
+/// A draft's word with its tables, one entry for each prefix, prefix 0 first.
 pub struct Fast {
     most_sections: usize,
-    letters: Vec<u8>,
+    word: Vec<u8>,
     mirrored: Mirrored,
     rows: Vec<u16>,
     leading: Vec<Vec<Leading>>,
@@ -31,26 +31,26 @@ pub struct Fast {
 }
 
 impl Fast {
-    /// The tables of a whole draft, with K.
-    pub fn new(letters: &[u8], most_sections: usize) -> Fast {
+    /// The tables of a whole draft by its word, with K.
+    pub fn new(word: &[u8], most_sections: usize) -> Fast {
         let mut fast = Fast {
             most_sections,
-            letters: Vec::new(),
+            word: Vec::new(),
             mirrored: Mirrored::of_empty_draft(),
             rows: vec![1],
             leading: vec![Vec::new()],
             named: vec![splits::of_empty_draft()],
         };
-        for &letter in letters {
-            fast.add(letter);
+        for &lift in word {
+            fast.add(lift);
         }
         fast
     }
 
     /// Adds the entries of one more prefix; those of the others stay.
-    pub(crate) fn add(&mut self, letter: u8) {
-        self.letters.push(letter);
-        self.mirrored.add_prefix(&self.letters);
+    pub(crate) fn add(&mut self, lift: u8) {
+        self.word.push(lift);
+        self.mirrored.add_prefix(&self.word);
         self.rows.push(self.row_by_every_ending());
         self.leading.push(self.leading_endings());
         self.named.push(self.named_splits());
@@ -61,15 +61,15 @@ impl Fast {
         self.most_sections
     }
 
-    /// The letters of the whole draft.
-    pub(crate) fn letters(&self) -> &[u8] {
-        &self.letters
+    /// The word of the whole draft.
+    pub(crate) fn word(&self) -> &[u8] {
+        &self.word
     }
 
     /// The row word of the whole draft: for each non-empty ending, the row word
     /// of what stands before it, moved up one bit, bits above K dropped.
     fn row_by_every_ending(&self) -> u16 {
-        let n = self.letters.len();
+        let n = self.word.len();
         let joined = (0..n)
             .filter(|&cut| self.mirrored.is_mirrored(cut, n))
             .fold(0, |word, cut| word | self.rows[cut] << 1);
@@ -80,8 +80,8 @@ impl Fast {
     /// is leading when twice the smallest period of all longer endings is greater
     /// than its length.
     fn leading_endings(&self) -> Vec<Leading> {
-        let n = self.letters.len();
-        let periods = least_periods_of_suffixes(&self.letters);
+        let n = self.word.len();
+        let periods = least_periods_of_suffixes(&self.word);
         let mut smallest = usize::MAX / 2;
         let mut leading = Vec::new();
         for length in (1..=n).rev() {

@@ -3,12 +3,14 @@
 //!
 //! `plain` holds each definition literally on slices, slow and obvious.
 //! `fast` answers the same questions for drafts of 2,048 picks by tables.
-//! `calls` holds the twelve calls with their refusals, and `book` the plain book.
+//! Both are given the word of a draft: the lifts of its picks, "two picks are the same
+//! when their lifts are equal". Letters are for records alone.
+//! `calls` holds the thirteen calls with their refusals, and `book` the plain book.
 //! `fields` reads a record field by field.
 //! `draft` is the draft program as a function from bytes to bytes, and `spoken` the
 //! console as one from a line to the lines that answer it.
 //! `samples` and `structured` make the drafts that tests are run on, and `full_drafts`
-//! names those of 2,048 picks; `records` makes records.
+//! names those of 2,048 picks; `records` makes records, and `tables` tables of lifts.
 //! `scripted` names the calls with their arguments, and `library` makes them on the
 //! proved board, by its static library.
 //! `beside` keeps the book beside that board, `readings` compares how both read a
@@ -31,6 +33,7 @@ pub mod samples;
 pub mod scripted;
 pub mod spoken;
 pub mod structured;
+pub mod tables;
 
 /// "A draft has 0 to 2,048 picks."
 pub const MOST_PICKS: usize = 2_048;
@@ -46,6 +49,9 @@ pub const FIRST_PICK: u8 = 65;
 
 /// "A pick is one byte, A to Z (65 to 90)": the last of them.
 pub const LAST_PICK: u8 = 90;
+
+/// "In letter order A to Z": how many letters there are, and so lifts of a table.
+pub const LETTERS: usize = 26;
 
 /// Byte 10, which closes the folded record and every line of the draft program.
 pub const LINE_END: u8 = 10;

@@ -2,7 +2,7 @@
 //! declares them.
 //!
 //! Places are in whole picks, centres in half picks. All that is lent stands between
-//! guard entries: letters, the lanes by centre, those by place, and every list and
+//! guard entries: letters, codes, lifts, the lanes by centre, those by place, and every list and
 //! buffer. They are looked at after each call, so that a write outside is seen, and so
 //! is a write to what calls only read.
 
@@ -17,4 +17,4 @@ pub use self::board::Board;
 pub use ::board::{CENTRES, GATHERED, HEADS, LENDS, NEXT, PLACES, PREV, RADIUS, ROWS};
 pub use reading::{section_at, unfold};
 pub use running::{Lent, ANSWER_NUMBERS, UNSET};
-pub use stateless::{lift, show};
+pub use stateless::show;

@@ -1,27 +1,40 @@
 //! The refusals that hang on the call's arguments and the stored n and K alone:
-//! numbers 1 to 4, 7, 8 and 13, which hold on any stored state.
+//! numbers 1 to 4, 7, 8 and 13 to 16, which hold on any stored state.
 
-use crate::calls::Refusal;
+use crate::calls::{Placed, Refusal};
 use crate::plain::{is_most_sections, is_pick};
 use crate::scripted::Call;
-use crate::{MOST_PICKS, VISIT_ROOM};
+use crate::tables::Table;
+use crate::{LETTERS, MOST_PICKS, VISIT_ROOM};
 
 /// The lines that a call tests, in its order, each with whether it is met.
 type Lines = Vec<(bool, Refusal)>;
 
-/// The number of those that the call is refused with; none where it meets no line of
-/// them.
-pub fn listed(call: Call, n: usize, most_sections: usize) -> Option<Refusal> {
-    let met = lines(call, n, most_sections)
-        .into_iter()
-        .find(|&(met, _)| met);
-    met.map(|(_, number)| number)
+/// The number of those that the call is refused with, and its place where it names one;
+/// none where it meets no line of them.
+pub fn listed(call: Call, n: usize, most_sections: usize) -> Option<Placed> {
+    let mut lines = lines(call, n, most_sections).into_iter();
+    let (_, number) = lines.find(|&(met, _)| met)?;
+    Some((number, place(call, number)))
+}
+
+/// "15, a lift of 0, with the first one's place from 0."
+fn place(call: Call, number: Refusal) -> Option<usize> {
+    match (call, number) {
+        (Call::Load { table }, 15) => first_0(table),
+        _ => None,
+    }
+}
+
+/// The place of the first lift of 0 in a table.
+fn first_0(table: Table) -> Option<usize> {
+    table.bytes().iter().position(|&lift| lift == 0)
 }
 
 /// "Each call that is given a state, other than start, tests 7 first; every call then
 /// tests those input numbers whose inputs it has, in rising order but for 5, then 8,
 /// 9 or 10, then 5." "A short ends list gets a number of its own in the same place of
-/// the order."
+/// the order." "New numbers, in this order after 7": 14, 15 and 16.
 fn lines(call: Call, n: usize, most_sections: usize) -> Lines {
     let mut lines = match call {
         Call::Start { most_sections } => return line_1_of_start(most_sections),
@@ -46,6 +59,12 @@ fn lines(call: Call, n: usize, most_sections: usize) -> Lines {
         Call::Radius { centre } | Call::NextEnding { centre } => {
             vec![(centre_is_outside(centre, n), 4)]
         }
+        Call::Lift { letter } => vec![(!is_pick(letter), 2)],
+        Call::Load { table } => vec![
+            (usize::from(table.length) != LETTERS, 14),
+            (first_0(table).is_some(), 15),
+            (n > 0, 16),
+        ],
         Call::Start { .. } | Call::LongestCentre => Vec::new(),
     });
     lines

@@ -1,4 +1,4 @@
-//! The tables of the letters asked about last, kept so that a run of calls on a
+//! The tables of the word asked about last, kept so that a run of calls on a
 //! growing draft does not build them anew for each call.
 
 use std::cell::RefCell;
@@ -10,23 +10,23 @@ thread_local! {
     static LAST: RefCell<Fast> = RefCell::new(Fast::new(&[], MOST_SECTIONS));
 }
 
-/// Puts a question to the tables of a draft that opens with these letters.
-pub fn ask<T>(letters: &[u8], most_sections: usize, question: impl FnOnce(&Fast) -> T) -> T {
+/// Puts a question to the tables of a word that opens with this one.
+pub fn ask<T>(word: &[u8], most_sections: usize, question: impl FnOnce(&Fast) -> T) -> T {
     LAST.with_borrow_mut(|fast| {
-        cover(fast, letters, most_sections);
+        cover(fast, word, most_sections);
         question(fast)
     })
 }
 
-/// Makes the tables be those of a draft that opens with these letters: as they
-/// are, with more letters added, or built anew.
-fn cover(fast: &mut Fast, letters: &[u8], most_sections: usize) {
-    let known = fast.letters().len();
+/// Makes the tables be those of a word that opens with this one: as they are, with more
+/// lifts added, or built anew.
+fn cover(fast: &mut Fast, word: &[u8], most_sections: usize) {
+    let known = fast.word().len();
     if fast.most_sections() != most_sections {
-        *fast = Fast::new(letters, most_sections);
-    } else if letters.starts_with(fast.letters()) {
-        letters[known..].iter().for_each(|&letter| fast.add(letter));
-    } else if !fast.letters().starts_with(letters) {
-        *fast = Fast::new(letters, most_sections);
+        *fast = Fast::new(word, most_sections);
+    } else if word.starts_with(fast.word()) {
+        word[known..].iter().for_each(|&lift| fast.add(lift));
+    } else if !fast.word().starts_with(word) {
+        *fast = Fast::new(word, most_sections);
     }
 }

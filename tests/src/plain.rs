@@ -1,5 +1,8 @@
-//! Every definition of document 01, literally, on slices of letters.
+//! Every definition of document 01, literally, on slices.
 //!
+//! A draft is given as its word, the lifts of its picks (`word`): "from here two picks are
+//! the same when their lifts are equal". Under distinct lifts, as the fixed ones are, its
+//! letters themselves do as well. Record and show are of letters.
 //! Picks are numbered from 1, so picks i+1 to j of a draft are `draft[i..j]`.
 //! Lengths and places are in whole picks, centres in half picks.
 
@@ -22,7 +25,7 @@ pub use endings::{
 };
 pub use gathered::{gathered_places, gathered_word};
 pub use layout::break_place;
-pub use picks::{is_pick, lift};
+pub use picks::{fixed_lifts, is_pick, lift, word, Lifts};
 pub use record::folded_record;
 pub use rows::{is_joined, is_most_sections, mask, row_word};
 pub use show::section;

@@ -1,13 +1,14 @@
 //! The calls that are given a state, each with its arguments: both the library and
 //! the comparison program can be given one.
 
-use crate::calls::{self, Answer, State};
+use crate::calls::{self, Answer, NextEnding, Placed, Refusal, State};
+use crate::tables::Table;
 
 /// Bytes of a script for each call.
 pub const CALL_BYTES: usize = 6;
 
 /// A call with its arguments. Prefixes are in whole picks, centres in half picks.
-/// Of a lent list and a lent output the lengths are given.
+/// Of a lent list and a lent output the lengths are given, of a table all bytes.
 #[derive(Clone, Copy, Debug, PartialEq, Eq)]
 pub enum Call {
     Start { most_sections: u8 },
@@ -18,20 +19,32 @@ pub enum Call {
     Radius { centre: u16 },
     NextEnding { centre: u16 },
     Record { prefix: u16, k: u8, bytes: u16 },
+    Lift { letter: u8 },
+    Load { table: Table },
 }
 
 /// The most values that a call gives.
 pub const VALUES: usize = 3;
 
 /// What a call replies: its values, 0 where there is no such value, or the number it
-/// is refused with.
-pub type Reply = Answer<[usize; VALUES]>;
+/// is refused with, and its place where the number names one.
+pub type Reply = Result<[usize; VALUES], Placed>;
 
 /// The reply that gives these values.
 pub fn given<const COUNT: usize>(values: [usize; COUNT]) -> Reply {
     let mut all = [0; VALUES];
     all[..COUNT].copy_from_slice(&values);
     Ok(all)
+}
+
+/// The reply of a call that is refused with this number, which names no place.
+pub fn refused(number: Refusal) -> Reply {
+    Err((number, None))
+}
+
+/// The number that a call is refused with; none where it is accepted.
+pub fn number_of(reply: Reply) -> Option<Refusal> {
+    reply.err().map(|(number, _)| number)
 }
 
 impl Call {
@@ -47,6 +60,8 @@ impl Call {
             Call::Radius { centre } => (5, 0, centre, 0),
             Call::NextEnding { centre } => (6, 0, centre, 0),
             Call::Record { prefix, k, bytes } => (7, k, prefix, bytes),
+            Call::Lift { letter } => (8, letter, 0, 0),
+            Call::Load { table } => (9, 0, 0, table.length),
         };
         let ([at_low, at_high], [lent_low, lent_high]) = (at.to_le_bytes(), lent.to_le_bytes());
         [number, byte, at_low, at_high, lent_low, lent_high]
@@ -68,19 +83,31 @@ impl Call {
         }
     }
 
+    /// The bytes of the input that the call is lent.
+    pub fn input(self) -> Vec<u8> {
+        match self {
+            Call::Load { table } => table.bytes(),
+            _ => Vec::new(),
+        }
+    }
+
     /// Whether the call only reads the state.
     pub fn only_reads(self) -> bool {
-        !matches!(self, Call::Start { .. } | Call::Feed { .. })
+        !matches!(
+            self,
+            Call::Start { .. } | Call::Feed { .. } | Call::Load { .. }
+        )
     }
 
     /// Makes the call by the definitions, on the comparison program's state.
     pub fn make(self, state: &mut State, list: &mut [u16], output: &mut [u8]) -> Reply {
         match self {
             Call::Start { most_sections } => {
-                calls::start(state, usize::from(most_sections)).and_then(|()| given([]))
+                values(calls::start(state, most_sections.into()).map(|()| []))
             }
-            Call::Feed { pick, .. } => calls::feed(state, pick, list)
-                .and_then(|taken| given([taken.mask.into(), taken.visits])),
+            Call::Feed { pick, .. } => values(
+                calls::feed(state, pick, list).map(|taken| [taken.mask.into(), taken.visits]),
+            ),
             Call::Split { prefix, k, .. } => {
                 one_value(calls::split(state, prefix.into(), k.into(), list))
             }
@@ -90,18 +117,25 @@ impl Call {
             }
             Call::Radius { centre } => one_value(calls::radius_at(state, centre.into())),
             Call::NextEnding { centre } => {
-                calls::next_ending(state, centre.into()).and_then(|ending| given(ending.values()))
+                values(calls::next_ending(state, centre.into()).map(NextEnding::values))
             }
             Call::Record { prefix, k, .. } => {
                 one_value(calls::folded_record(state, prefix.into(), k.into(), output))
             }
+            Call::Lift { letter } => one_value(calls::lift(state, letter).map(usize::from)),
+            Call::Load { table } => calls::load(state, &table.bytes()).and_then(|()| given([])),
         }
     }
 }
 
+/// The reply of a call with these values, whose numbers name no place.
+fn values<const COUNT: usize>(answer: Answer<[usize; COUNT]>) -> Reply {
+    answer.map_or_else(refused, given)
+}
+
 /// The reply of a call that has one value.
 fn one_value(answer: Answer<usize>) -> Reply {
-    answer.and_then(|value| given([value]))
+    values(answer.map(|value| [value]))
 }
 
 /// The bytes of a script of these calls.

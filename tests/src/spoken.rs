@@ -12,14 +12,15 @@ mod stateless;
 mod text;
 mod words;
 
-use crate::calls::{self, State};
+use crate::calls::{self, Placed, State};
 use crate::listed::listed;
+use crate::plain;
 use crate::LINE_END;
 use arrays::Known;
 use asked::Asked;
-use expected::ok;
+use expected::{ok, refused};
 use lines::Line;
-use stateless::{lifted, shown, unfolded, yielded};
+use stateless::{shown, unfolded, yielded};
 
 pub use arrays::{Array, ARRAYS};
 pub use expected::Expected;
@@ -41,7 +42,7 @@ impl Console {
     /// "At first every stored number is 0."
     pub fn new(all: bool) -> Console {
         Console {
-            state: State::empty(0),
+            state: State::zeros(),
             longest: Some(0),
             by_run: false,
             known: Known::at_first(),
@@ -69,10 +70,11 @@ impl Console {
         Expected::Line(match line {
             Line::Call(asked) => return self.call(asked),
             Line::Numbers => return self.numbers(),
-            Line::Peek(entry) => return peeked(self.known.entry(entry, &self.state)),
+            Line::Peek(entry) => return peeked(self.known.entry(entry, &mut self.state)),
             Line::Help => return Expected::Help,
             Line::Show { letters, s, ends } => shown(&letters, &ends, s),
-            Line::Lift(letter) => lifted(letter),
+            Line::Lift(letter) => told(calls::lift(&self.state, letter).map(usize::from)),
+            Line::Load(table) => loaded(calls::load(&mut self.state, &table)),
             Line::Unfold { record, bytes } => unfolded(&record, bytes, self.all),
             Line::Section { record, at } => yielded(&record, at),
             Line::Lengths => lengths(),
@@ -104,16 +106,27 @@ impl Console {
         } = self.state;
         let all = self.all;
         match listed(asked.scripted(), n, most_sections) {
-            Some(number) => Expected::Line(expected::line(&Err(number), asked, &asked.lent(), all)),
+            Some((number, _)) => {
+                let answer = Err(number);
+                Expected::Line(expected::line(&answer, asked, &asked.lent(), all))
+            }
             None => {
-                if matches!(asked, Asked::Feed { .. }) {
-                    self.state.n += 1;
-                    self.longest = None;
-                    self.known.feed(false);
+                if let Asked::Feed { pick, .. } = asked {
+                    self.take(pick);
                 }
                 Expected::Possible { asked, n, all }
             }
         }
+    }
+
+    /// A feed is accepted on a state that no run made: the pick and its lift are stored.
+    fn take(&mut self, pick: u8) {
+        let State { n, lifts, .. } = self.state;
+        self.state.letters[n] = pick;
+        self.state.codes[n] = plain::lift(&lifts, pick).expect("a pick is A to Z");
+        self.state.n += 1;
+        self.longest = None;
+        self.known.feed();
     }
 
     /// A call of a run: a start, or one on the state that a run made.
@@ -126,7 +139,7 @@ impl Console {
                     self.by_run = true;
                     self.known.start();
                 }
-                Asked::Feed { .. } => self.known.feed(true),
+                Asked::Feed { .. } => self.known.feed(),
                 _ => {}
             }
             self.longest = calls::longest_centre(&self.state).ok();
@@ -143,6 +156,20 @@ impl Console {
             Some(longest) => Expected::Line(ok(&[n, most_sections, longest])),
             None => Expected::Values(3),
         }
+    }
+}
+
+/// `ok` and the value, or `refused` and the number.
+fn told(answer: calls::Answer<usize>) -> String {
+    answer.map_or_else(refused, |value| ok(&[value]))
+}
+
+/// "`load BYTE..`" answers `ok`, or `refused NUMBER [PLACE]`.
+fn loaded(answer: Result<(), Placed>) -> String {
+    match answer {
+        Ok(()) => ok(&[]),
+        Err((number, Some(place))) => format!("{} {place}", refused(number)),
+        Err((number, None)) => refused(number),
     }
 }
 

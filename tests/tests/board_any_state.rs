@@ -15,7 +15,7 @@ use bounded::{is_counted, is_told, make_within_bounds};
 use comparison::beside::{BYTE, ENTRY};
 use comparison::library::{Board, Lent};
 use comparison::samples::Generator;
-use comparison::scripted::Call;
+use comparison::scripted::{refused, Call};
 use comparison::{MOST_PICKS, MOST_SECTIONS};
 use ends::{each_step_ends, Step};
 use some_calls::some_call;
@@ -84,7 +84,7 @@ fn ask_every_ending(board: &mut Board, step: Step) -> usize {
         let case = || format!("{reply:?}, centre {centre}, n {n}, {step}");
         match reply {
             Ok(values) => assert!(is_told(values, centre, n), "{}", case()),
-            Err(number) => assert_eq!(number, 10, "{}", case()),
+            Err(_) => assert_eq!(reply, refused(10), "{}", case()),
         }
         told += usize::from(reply.is_ok());
     }

@@ -6,9 +6,8 @@
 mod turn_counts;
 
 use comparison::beside::{Beside, BYTE, ENTRY};
-use comparison::calls;
-use comparison::library::{lift, Board};
-use comparison::scripted::{given, Call};
+use comparison::library::Board;
+use comparison::scripted::{given, refused, Call};
 use comparison::{MOST_PICKS, MOST_SECTIONS, VISIT_ROOM};
 use turn_counts::TURN_COUNTS;
 
@@ -57,7 +56,7 @@ fn prefix_0() {
                 entries,
             };
             let (reply, list, _) = run.make_lent(split);
-            assert_eq!(reply, Err(9), "{draft}, k {k}");
+            assert_eq!(reply, refused(9), "{draft}, k {k}");
             assert_eq!(list, vec![ENTRY; usize::from(k)], "{draft}, k {k}");
         }
     }
@@ -121,7 +120,7 @@ fn aabacabaa_by_centre() {
             10 => given([17, 9, 7]),
             17 => given([18, 2, 1]),
             18 => given([19, 1, 1]),
-            _ => Err(10),
+            _ => refused(10),
         };
         let reply = run.make(Call::NextEnding { centre });
         assert_eq!(reply, expected, "centre {centre}");
@@ -134,7 +133,7 @@ fn assert_endings(draft: &str, endings: &[(u16, [usize; 3])]) {
     let mut run = Beside::fed(draft.as_bytes(), MOST_SECTIONS);
     for centre in 1..=2 * draft.len() as u16 + 1 {
         let told = endings.iter().find(|(at, _)| *at == centre);
-        let expected = told.map_or(Err(10), |(_, values)| given(*values));
+        let expected = told.map_or(refused(10), |(_, values)| given(*values));
         let reply = run.make(Call::NextEnding { centre });
         assert_eq!(reply, expected, "{draft}, centre {centre}");
     }
@@ -181,23 +180,27 @@ fn the_last_pick_the_visit_list_and_the_bytes_beside_the_letters() {
     let draft = [b'A'; MOST_PICKS - 1];
     let mut run = Beside::fed(&draft, MOST_SECTIONS);
     let feed = |pick, entries| Call::Feed { pick, entries };
-    assert_eq!(run.make(feed(b'B', 18)), Err(3));
-    assert_eq!(run.make(feed(64, 19)), Err(2));
-    assert_eq!(run.make(feed(91, 19)), Err(2));
+    assert_eq!(run.make(feed(b'B', 18)), refused(3));
+    assert_eq!(run.make(feed(64, 19)), refused(2));
+    assert_eq!(run.make(feed(91, 19)), refused(2));
     assert_eq!(run.make(feed(b'B', 19)), given([254, 1]));
     assert_eq!(run.board.n(), 2_048);
-    assert_eq!(run.make(feed(b'B', 19)), Err(8));
+    assert_eq!(run.make(feed(b'B', 19)), refused(8));
     assert_eq!(run.board.n(), 2_048);
 }
 
-/// "So A lifts 3 and Z lifts 96", and every one of the 256 bytes.
+/// "So A lifts 3 and Z lifts 96", and every one of the 256 bytes, on an empty draft and on
+/// another.
 #[test]
 fn lifts_of_all_bytes() {
-    assert_eq!((lift(b'A'), lift(b'Z')), (Ok(3), Ok(96)));
-    for letter in 0..=255 {
-        let expected = calls::lift(letter).map(usize::from);
-        assert_eq!(lift(letter), expected, "byte {letter}");
-        let is_letter = (65..=90).contains(&letter);
-        assert_eq!(lift(letter) == Err(2), !is_letter, "byte {letter}");
+    for draft in ["", "ABACDDC"] {
+        let mut run = Beside::fed(draft.as_bytes(), MOST_SECTIONS);
+        assert_eq!(run.make(Call::Lift { letter: b'A' }), given([3]));
+        assert_eq!(run.make(Call::Lift { letter: b'Z' }), given([96]));
+        for letter in 0..=255 {
+            let reply = run.make(Call::Lift { letter });
+            let is_letter = (65..=90).contains(&letter);
+            assert_eq!(reply == refused(2), !is_letter, "byte {letter}");
+        }
     }
 }

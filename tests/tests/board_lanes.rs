@@ -9,6 +9,7 @@ use comparison::full_drafts;
 use comparison::library::{
     Board, CENTRES, GATHERED, HEADS, LENDS, NEXT, PLACES, PREV, RADIUS, ROWS,
 };
+use comparison::plain;
 use comparison::samples::{every_draft_to, Generator};
 use comparison::{FIRST_PICK, MOST_PICKS, MOST_SECTIONS, VISIT_ROOM};
 use words::compare_words;
@@ -53,10 +54,14 @@ fn compare_lend_lists(board: &Board, fast: &Fast, name: &str) {
     assert!(board.centre_lane(LENDS) == lends, "{name}, lend lists");
 }
 
-/// Beyond n picks every entry of every lane is 0, as a start leaves it, and so is
-/// entry 0 of the lanes by centre.
+/// Beyond n picks every entry of every lane, every letter and every code is 0, as a start
+/// leaves it, and so is entry 0 of the lanes by centre.
 fn assert_rest_untouched(board: &Board, name: &str) {
     let n = board.n();
+    for bytes in board.stored_picks() {
+        let kept = bytes[n..].iter().all(|&byte| byte == 0);
+        assert!(kept, "{name}, letters or codes beyond {n} picks");
+    }
     for lane in [RADIUS, LENDS, NEXT, PREV] {
         let (used, rest) = board.centre_lane(lane).split_at(2 * n + 2);
         let kept = used[0] == 0 && rest.iter().all(|&entry| entry == 0);
@@ -69,9 +74,20 @@ fn assert_rest_untouched(board: &Board, name: &str) {
     }
 }
 
-/// Compares every entry of every lane.
-fn compare_lanes(board: &Board, fast: &Fast, name: &str) {
+/// The letters of the draft, their lifts, and the fixed lifts in force.
+fn compare_bytes(board: &Board, draft: &[u8], name: &str) {
+    let n = board.n();
+    let lifts = plain::fixed_lifts();
+    assert!(board.letters() == &draft[..n], "{name}, letters");
+    let word = plain::word(&lifts, &draft[..n]);
+    assert!(board.codes() == word, "{name}, codes");
+    assert_eq!(board.lifts(), lifts, "{name}, lifts");
+}
+
+/// Compares every entry of every lane, every letter, code and lift.
+fn compare_lanes(board: &Board, fast: &Fast, draft: &[u8], name: &str) {
     let name = &format!("{name}, after {}", board.n());
+    compare_bytes(board, draft, name);
     compare_radii(board, fast, name);
     compare_links(board, fast, name);
     compare_lend_lists(board, fast, name);
@@ -84,7 +100,7 @@ fn lanes_of_every_small_draft() {
     for draft in every_draft_to(2, 11).chain(every_draft_to(3, 7)) {
         let board = Board::fed(&draft, MOST_SECTIONS);
         let fast = Fast::new(&draft, MOST_SECTIONS);
-        compare_lanes(&board, &fast, &String::from_utf8_lossy(&draft));
+        compare_lanes(&board, &fast, &draft, &String::from_utf8_lossy(&draft));
     }
 }
 
@@ -94,11 +110,11 @@ fn lanes_of_full_drafts() {
     for (name, draft) in words.into_iter().chain(full_drafts::random()) {
         let fast = Fast::new(&draft, MOST_SECTIONS);
         let mut board = Board::started(MOST_SECTIONS);
-        for pick in draft {
+        for &pick in &draft {
             let fed = board.feed(pick, &mut [0; VISIT_ROOM]);
             assert!(fed.is_ok(), "{name}");
             if board.n().is_multiple_of(128) {
-                compare_lanes(&board, &fast, &name);
+                compare_lanes(&board, &fast, &draft, &name);
             }
         }
         assert_eq!(board.n(), MOST_PICKS, "{name}");

@@ -8,7 +8,7 @@ use comparison::beside::{BYTE, ENTRY};
 use comparison::fast::Fast;
 use comparison::full_drafts;
 use comparison::library::{Board, Lent};
-use comparison::scripted::{given, Call, Reply};
+use comparison::scripted::{given, refused, Call, Reply};
 use comparison::{plain, FIRST_PICK, MOST_PICKS, MOST_SECTIONS};
 use turns::turns_by_parts;
 
@@ -27,7 +27,7 @@ fn prefixes() -> impl Iterator<Item = usize> {
 fn split_by(fast: &Fast, i: usize, k: usize) -> (Reply, Vec<u16>) {
     let mut list = vec![ENTRY; ENTRIES];
     let Some(ends) = fast.split(i, k) else {
-        return (Err(9), list);
+        return (refused(9), list);
     };
     for (entry, &end) in list.iter_mut().zip(&ends) {
         *entry = end as u16;

@@ -9,6 +9,7 @@ mod ends;
 use bounded::make_within_bounds;
 use comparison::library::{Board, NEXT, RADIUS, ROWS};
 use comparison::scripted::Call;
+use comparison::tables::Table;
 use comparison::MOST_PICKS;
 use ends::{each_step_ends, Step};
 
@@ -32,6 +33,8 @@ fn links_made_for_many_visits() {
 fn many_visits(n: usize) -> Board {
     let mut board = Board::filled(|| 0);
     board.letters_mut().fill(65);
+    board.codes_mut().fill(3);
+    board.lifts_mut().fill(3);
     board.store(n, 8, n + 2);
     board.centre_lane_mut(RADIUS)[n + 2] = (n - (n + 2) / 2) as u16;
     let next = board.centre_lane_mut(NEXT);
@@ -74,9 +77,9 @@ fn three_sections(ends: [u16; 3]) -> Board {
     board
 }
 
-/// A call of each kind with arguments that no line of 1 to 4 and 13 refuses on a good
-/// state.
-fn good_calls(n: usize) -> [Call; 8] {
+/// A call of each kind but load, with arguments that no line of 1 to 4 and 13 refuses on a
+/// good state.
+fn good_calls(n: usize) -> [Call; 9] {
     let prefix = n.min(MOST_PICKS) as u16;
     [
         Call::Start { most_sections: 4 },
@@ -98,7 +101,17 @@ fn good_calls(n: usize) -> [Call; 8] {
             k: 1,
             bytes: 40,
         },
+        Call::Lift { letter: 90 },
     ]
+}
+
+/// Loads of a good table, of one with a 0 and of one that is too long.
+fn loads() -> [Call; 3] {
+    let good = Table::of([255; 26]);
+    let mut with_a_0 = good;
+    with_a_0.lifts[7] = 0;
+    let too_long = Table { length: 27, ..good };
+    [good, with_a_0, too_long].map(|table| Call::Load { table })
 }
 
 /// Both sides of each limit: n of 2,048 and 2,049, K of 0 and 1, 8 and 9. Every call
@@ -109,7 +122,7 @@ fn both_sides_of_each_limit() {
     for n in limits {
         for most_sections in [0, 1, 8, 9, 255, 264] {
             let good = n <= MOST_PICKS && (1..=8).contains(&most_sections);
-            for call in good_calls(n) {
+            for call in good_calls(n).into_iter().chain(loads()) {
                 let mut board = Board::filled(|| 1);
                 board.store(n, most_sections, n.saturating_add(1));
                 let number = make_within_bounds(&mut board, call, "stored");
@@ -139,7 +152,7 @@ fn every_stored_link() {
 #[test]
 fn every_stored_k() {
     for most_sections in 0..=600 {
-        for call in good_calls(3) {
+        for call in good_calls(3).into_iter().chain(loads()) {
             let mut board = Board::filled(|| 0);
             board.store(3, most_sections, 4);
             let number = make_within_bounds(&mut board, call, "stored");
@@ -152,7 +165,7 @@ fn every_stored_k() {
 
 /// Calls with an argument that a line of 1 to 4 or 13 refuses on every state but one of
 /// line 7.
-fn bad_calls() -> [Call; 8] {
+fn bad_calls() -> [Call; 9] {
     [
         Call::Start { most_sections: 9 },
         Call::Feed {
@@ -177,6 +190,7 @@ fn bad_calls() -> [Call; 8] {
             k: 0,
             bytes: 40,
         },
+        Call::Lift { letter: 91 },
     ]
 }
 
@@ -211,7 +225,7 @@ fn stored_numbers_beyond_their_limits() {
         for most_sections in STORED {
             let good = n <= MOST_PICKS && (1..=8).contains(&most_sections);
             for longest in STORED {
-                for call in good_calls(n).into_iter().chain(bad_calls()) {
+                for call in good_calls(n).into_iter().chain(bad_calls()).chain(loads()) {
                     state.store(n, most_sections, longest);
                     let is_start = matches!(call, Call::Start { .. });
                     let case = format!("stored centre {longest}");

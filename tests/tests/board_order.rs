@@ -1,12 +1,13 @@
 //! Which number the library gives when the lines of several are met: every subset of
 //! the lines of each call. 7 first, then the input numbers in rising order but for 5,
-//! 13 in the place of 3, then 8, 9 or 10, then 5.
+//! 13 in the place of 3, then 8, 9 or 10, then 5; of a load 7, 14, 15, 16.
 
 use comparison::beside::{BYTE, ENTRY};
 use comparison::calls::Refusal;
 use comparison::library::{show, Board};
-use comparison::scripted::Call;
-use comparison::{MOST_PICKS, MOST_SECTIONS};
+use comparison::scripted::{number_of, Call};
+use comparison::tables::Table;
+use comparison::{LETTERS, MOST_PICKS, MOST_SECTIONS};
 
 /// For every subset of the lines, which are in the order of the tests, makes the call
 /// that meets exactly those and asserts that it gives the first of them, or is
@@ -21,7 +22,7 @@ fn assert_order(lines: &[Refusal], case: impl Fn(&dyn Fn(Refusal) -> bool) -> (B
         let before = board.clone();
         let mut list = vec![ENTRY; call.entries()];
         let mut output = vec![BYTE; call.output_bytes()];
-        let number = board.make(call, &mut list, &mut output).err();
+        let number = number_of(board.make(call, &mut list, &mut output));
         assert_eq!(number, met.first().copied(), "{call:?} meets {met:?}");
         let kept = board == before
             && list.iter().all(|&entry| entry == ENTRY)
@@ -123,6 +124,32 @@ fn next_shorter_ending() {
                 (false, false) => 4,
             };
             (stored(b"AB", meets(7)), Call::NextEnding { centre })
+        });
+    }
+}
+
+#[test]
+fn lift() {
+    assert_order(&[7, 2], |meets| {
+        let letter = if meets(2) { b'a' } else { b'A' };
+        (stored(b"AB", meets(7)), Call::Lift { letter })
+    });
+}
+
+/// A table of 27 bytes, one of 25, and with two zeros or none.
+#[test]
+fn load() {
+    for length in [25, 27] {
+        assert_order(&[7, 14, 15, 16], |meets| {
+            let mut table = Table::of([200; LETTERS]);
+            if meets(14) {
+                table.length = length;
+            }
+            if meets(15) {
+                table.lifts[3..5].fill(0);
+            }
+            let draft = if meets(16) { &b"AB"[..] } else { b"" };
+            (stored(draft, meets(7)), Call::Load { table })
         });
     }
 }

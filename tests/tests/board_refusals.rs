@@ -5,7 +5,7 @@ use comparison::beside::Beside;
 use comparison::calls::NextEnding;
 use comparison::library::Board;
 use comparison::samples::Generator;
-use comparison::scripted::{given, Call};
+use comparison::scripted::{given, number_of, refused, Call};
 use comparison::{MOST_PICKS, MOST_SECTIONS};
 
 fn feed(pick: u8, entries: u16) -> Call {
@@ -27,7 +27,7 @@ fn number_1_in_start() {
         let mut run = Beside::fed(b"ABA", 5);
         let reply = run.make(Call::Start { most_sections });
         let is_good = (1..=8).contains(&most_sections);
-        assert_eq!(reply, if is_good { given([]) } else { Err(1) });
+        assert_eq!(reply, if is_good { given([]) } else { refused(1) });
         let kept = if is_good { 0 } else { 3 };
         assert_eq!(run.board.n(), kept, "K {most_sections}");
     }
@@ -42,8 +42,8 @@ fn number_1_in_split_and_record() {
             let is_good = (1..=most_sections).contains(&usize::from(k));
             let number = (!is_good).then_some(1);
             let case = format!("k {k}, K {most_sections}");
-            assert_eq!(run.make(split(10, k, 300)).err(), number, "{case}");
-            assert_eq!(run.make(record(10, k, 99)).err(), number, "{case}");
+            assert_eq!(number_of(run.make(split(10, k, 300))), number, "{case}");
+            assert_eq!(number_of(run.make(record(10, k, 99))), number, "{case}");
         }
     }
 }
@@ -54,7 +54,7 @@ fn number_2() {
     for byte in 0..=255 {
         let mut run = Beside::fed(b"AB", MOST_SECTIONS);
         let number = (!(65..=90).contains(&byte)).then_some(2);
-        assert_eq!(run.make(feed(byte, 19)).err(), number, "byte {byte}");
+        assert_eq!(number_of(run.make(feed(byte, 19))), number, "byte {byte}");
     }
 }
 
@@ -64,7 +64,7 @@ fn number_3() {
     for entries in 0..=40 {
         let mut run = Beside::fed(b"AB", MOST_SECTIONS);
         let number = (entries < 19).then_some(3);
-        let given = run.make(feed(b'A', entries)).err();
+        let given = number_of(run.make(feed(b'A', entries)));
         assert_eq!(given, number, "{entries} entries");
     }
 }
@@ -78,7 +78,11 @@ fn number_13() {
             // the last section has 9 - k picks, each before it one
             let turns = if k < 8 { 1 } else { 0 };
             let is_short = entries < u16::from(k);
-            let reply = if is_short { Err(13) } else { given([turns]) };
+            let reply = if is_short {
+                refused(13)
+            } else {
+                given([turns])
+            };
             let case = format!("k {k}, {entries} entries");
             assert_eq!(run.make(split(8, k, entries)), reply, "{case}");
         }
@@ -92,12 +96,12 @@ fn number_4_by_prefix() {
         let n = draft.len() as u16;
         let mut run = Beside::fed(draft.as_bytes(), MOST_SECTIONS);
         for (prefix, number) in [(n, None), (n + 1, Some(4)), (u16::MAX, Some(4))] {
-            let given = run.make(Call::Mask { prefix }).err();
+            let given = number_of(run.make(Call::Mask { prefix }));
             assert_eq!(given, number, "{draft}, mask of {prefix}");
             let one = number.or((n == 0).then_some(9));
-            let given = run.make(split(prefix, 1, 1)).err();
+            let given = number_of(run.make(split(prefix, 1, 1)));
             assert_eq!(given, one, "{draft}, split of {prefix}");
-            let given = run.make(record(prefix, 1, 99)).err();
+            let given = number_of(run.make(record(prefix, 1, 99)));
             assert_eq!(given, one, "{draft}, record of {prefix}");
         }
     }
@@ -112,13 +116,13 @@ fn number_4_by_centre() {
         let mut run = Beside::fed(draft, MOST_SECTIONS);
         for centre in [0, last + 1, u16::MAX] {
             let case = format!("centre {centre} of {} picks", draft.len());
-            assert_eq!(run.make(Call::Radius { centre }), Err(4), "{case}");
-            assert_eq!(run.make(Call::NextEnding { centre }), Err(4), "{case}");
+            assert_eq!(run.make(Call::Radius { centre }), refused(4), "{case}");
+            assert_eq!(run.make(Call::NextEnding { centre }), refused(4), "{case}");
         }
         for centre in [1, last] {
             let case = format!("centre {centre} of {} picks", draft.len());
             assert_eq!(run.make(Call::Radius { centre }), given([0]), "{case}");
-            assert_eq!(run.make(Call::NextEnding { centre }), Err(10), "{case}");
+            assert_eq!(run.make(Call::NextEnding { centre }), refused(10), "{case}");
         }
     }
 }
@@ -131,7 +135,7 @@ fn number_5() {
         let mut run = Beside::fed(draft.as_bytes(), MOST_SECTIONS);
         for bytes in 0..=length + 1 {
             let expected = match bytes < length {
-                true => Err(5),
+                true => refused(5),
                 false => given([length.into()]),
             };
             let reply = run.make(record(prefix, k, bytes));
@@ -148,7 +152,7 @@ fn number_8() {
         let mut run = Beside::fed(&draft, MOST_SECTIONS);
         assert!(run.make(feed(b'A', 19)).is_ok(), "pick 2,048");
         for pick in [b'A', b'B', b'Z'] {
-            assert_eq!(run.make(feed(pick, 24)), Err(8), "pick 2,049");
+            assert_eq!(run.make(feed(pick, 24)), refused(8), "pick 2,049");
         }
     }
 }
@@ -159,10 +163,10 @@ fn number_9() {
     let mut run = Beside::fed(b"ABACDDC", MOST_SECTIONS);
     for k in 1..=8 {
         let number = [1, 3, 8].contains(&k).then_some(9);
-        assert_eq!(run.make(split(7, k, 8)).err(), number, "k {k}");
-        assert_eq!(run.make(record(7, k, 99)).err(), number, "k {k}");
-        assert_eq!(run.make(split(0, k, 8)), Err(9), "k {k}");
-        assert_eq!(run.make(record(0, k, 99)), Err(9), "k {k}");
+        assert_eq!(number_of(run.make(split(7, k, 8))), number, "k {k}");
+        assert_eq!(number_of(run.make(record(7, k, 99))), number, "k {k}");
+        assert_eq!(run.make(split(0, k, 8)), refused(9), "k {k}");
+        assert_eq!(run.make(record(0, k, 99)), refused(9), "k {k}");
     }
 }
 

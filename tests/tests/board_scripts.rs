@@ -7,7 +7,8 @@ mod some_calls;
 use comparison::beside::{BYTE, ENTRY};
 use comparison::library::{Board, Lent, ANSWER_NUMBERS, UNSET};
 use comparison::samples::Generator;
-use comparison::scripted::{script, Call, Reply, CALL_BYTES};
+use comparison::scripted::{given, refused, script, Call, Reply, CALL_BYTES};
+use comparison::tables::Table;
 use some_calls::some_call;
 
 /// Makes the calls one by one. Gives their replies and what they left of all that
@@ -133,11 +134,28 @@ fn fewer_output_bytes() {
     }
 }
 
-/// Any input, an empty one among them: no call reads it, so the script gives the same
-/// and goes on to its end.
+/// Any number of input bytes: a load that is lent more than are left is not made, nor is
+/// any call after it.
+#[test]
+fn fewer_input_bytes() {
+    let calls = some_calls_of_each_kind(&mut Generator(77), 60);
+    let all = calls.iter().map(|call| call.input().len()).sum();
+    assert!(all > 26, "loads are among {calls:?}");
+    for bytes in 0..=all {
+        let mut lent = Lent::to(&calls, ENTRY, BYTE);
+        lent.input.truncate(bytes);
+        let made = made_with(&calls, bytes, |call| call.input().len());
+        let case = format!("{bytes} input bytes");
+        assert_made(&script(&calls), &mut lent, &calls, made, &case);
+    }
+}
+
+/// Any input, an empty one among them: no call but a load reads it, so a script without
+/// one gives the same and goes on to its end.
 #[test]
 fn any_input() {
-    let calls = some_calls_of_each_kind(&mut Generator(75), 30);
+    let mut calls = some_calls_of_each_kind(&mut Generator(75), 40);
+    calls.retain(|call| call.input().is_empty());
     let generator = &mut Generator(76);
     for length in 0..=300 {
         let mut lent = Lent::to(&calls, ENTRY, BYTE);
@@ -147,11 +165,46 @@ fn any_input() {
     }
 }
 
-/// A call number above 7 ends the script, wherever it stands.
+/// "Each call's part of `input` comes behind that of the calls before it": loads of tables
+/// that are other in every place, refused ones among them, with starts between.
+#[test]
+fn each_load_reads_behind_the_one_before() {
+    let start = Call::Start { most_sections: 8 };
+    let tables = [26, 0, 25, 26, 27, 52, 26].into_iter().zip(1u8..);
+    let loads = tables.map(|(length, first)| {
+        let lifts = std::array::from_fn(|at| first + 8 * at as u8);
+        let behind = first;
+        let table = Table {
+            lifts,
+            length,
+            behind,
+        };
+        Call::Load { table }
+    });
+    let letters = [b'A', b'B', b'Z'].map(|letter| Call::Lift { letter });
+    let calls: Vec<Call> = loads
+        .flat_map(|load| [vec![start, load], letters.to_vec()].concat())
+        .collect();
+    let mut board = Board::filled(|| 0);
+    let replies = board.ask(&calls);
+    for (at, replies) in replies.chunks(5).enumerate() {
+        let first = at + 1;
+        let loaded = [first, first + 8, first + 200].map(|lift| given([lift]));
+        let fixed = [3, 5, 96].map(|lift| given([lift]));
+        let (load, lifts) = match at {
+            0 | 3 | 6 => (given([]), loaded),
+            _ => (refused(14), fixed),
+        };
+        assert_eq!(replies[1], load, "load {first}");
+        assert_eq!(replies[2..], lifts, "load {first}");
+    }
+}
+
+/// A call number above 9 ends the script, wherever it stands.
 #[test]
 fn a_call_number_that_there_is_not() {
     let calls = some_calls_of_each_kind(&mut Generator(74), 12);
-    for number in 8..=255 {
+    for number in 10..=255 {
         let at = usize::from(number) % calls.len();
         let mut bytes = script(&calls);
         bytes[CALL_BYTES * at] = number;

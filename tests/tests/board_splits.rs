@@ -16,10 +16,7 @@ use turns::turns_by_parts;
 
 /// The comparison program's state of a draft.
 fn state_of(draft: &[u8], most_sections: usize) -> State {
-    let mut state = State::empty(most_sections);
-    state.n = draft.len();
-    state.letters[..draft.len()].copy_from_slice(draft);
-    state
+    State::of(draft, most_sections, &plain::fixed_lifts())
 }
 
 /// The length of the record of prefix i in k sections, or 20 where there is none.

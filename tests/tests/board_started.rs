@@ -12,7 +12,7 @@ use comparison::beside::Beside;
 use comparison::fast::Fast;
 use comparison::library::Board;
 use comparison::samples::Generator;
-use comparison::scripted::{given, Call};
+use comparison::scripted::{given, refused, Call};
 use comparison::structured::broken_periods;
 use comparison::{MOST_PICKS, MOST_SECTIONS};
 
@@ -86,15 +86,15 @@ fn a_start_on_a_full_draft() {
     for most_sections in 1..=MOST_SECTIONS as u8 {
         let draft = Generator(u64::from(most_sections)).draft(2, MOST_PICKS);
         let mut beside = Beside::fed(&draft, MOST_SECTIONS);
-        let refused = Call::Feed {
+        let one_more = Call::Feed {
             pick: b'A',
             entries: 19,
         };
-        assert_eq!(beside.make(refused), Err(8));
+        assert_eq!(beside.make(one_more), refused(8));
         assert_eq!(beside.make(Call::Start { most_sections }), given([]));
         assert_eq!(beside.make(Call::LongestCentre), given([1]));
         assert_eq!(beside.make(Call::Mask { prefix: 0 }), given([0]));
-        assert_eq!(beside.make(Call::Mask { prefix: 1 }), Err(4));
+        assert_eq!(beside.make(Call::Mask { prefix: 1 }), refused(4));
         for pick in *b"ABABABA" {
             let fed = beside.make(Call::Feed { pick, entries: 19 });
             assert!(fed.is_ok(), "K {most_sections}");

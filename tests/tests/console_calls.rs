@@ -31,6 +31,15 @@ fn the_worked_examples() {
     compare_session(false, include_str!("support/sessions/folded_record.txt"));
 }
 
+/// Loads and lifts, and drafts that are mirrored by lifts alone, their numbers written out.
+#[test]
+fn the_mills_own_lifts() {
+    for all in [false, true] {
+        compare_session(all, include_str!("support/sessions/loads.txt"));
+    }
+    compare_session(false, include_str!("support/sessions/alike.txt"));
+}
+
 /// "With `--all` the whole list or output is printed as it stands after every call."
 #[test]
 fn the_whole_of_what_is_lent() {
@@ -55,6 +64,47 @@ fn the_order_of_numbers() {
 #[test]
 fn next_endings() {
     compare_session(false, include_str!("support/sessions/next_endings.txt"));
+}
+
+/// A load of so many bytes, which are all this one.
+fn load(count: usize, byte: u8) -> String {
+    format!("load{}\n", format!(" {byte}").repeat(count))
+}
+
+/// Tables of every length up to 60, and such as are 26 bytes where their count is cut to a
+/// byte or two: 14, in its order. Every byte as a lift; a 0 at each place.
+#[test]
+fn tables_of_every_length() {
+    let far = [26 + (1 << 8), (1 << 16) - 1, 1 << 16, 26 + (1 << 16)];
+    let counts = (0..=60).chain(far).filter(|&count| count != 26);
+    let loads: String = counts
+        .map(|count| load(count, 1) + &load(count, 0))
+        .collect();
+    let answers = compare(false, format!("{loads}start 8\n{loads}feed A\n{loads}"));
+    let given = [7, 14].map(|number| {
+        let answer = format!("refused {number}");
+        answers.iter().filter(|given| **given == answer).count()
+    });
+    assert_eq!(given, [128, 2 * 128], "7 before a start, then 14");
+    let mut input = String::from("start 8\n");
+    for byte in 0..=255 {
+        input += &format!("{}lift A\nlift Z\n", load(26, byte));
+    }
+    for place in 0..26 {
+        let mut table = [9; 26];
+        table[place] = 0;
+        let bytes = table.map(|byte| format!(" {byte}")).concat();
+        input += &format!("load{bytes}\nlift A\n");
+    }
+    let answers = compare(true, input);
+    let zeros: Vec<&String> = answers
+        .iter()
+        .filter(|a| a.starts_with("refused"))
+        .collect();
+    let places = (0..1)
+        .chain(0..26)
+        .map(|place| format!("refused 15 {place}"));
+    assert!(zeros.into_iter().eq(&Vec::from_iter(places)));
 }
 
 /// The line that feeds a draft.

@@ -39,8 +39,10 @@ fn assert_no_calls_with(places: &[&str], words: &[&str]) {
 }
 
 /// Every place of a number.
-const NUMBERS: [&str; 22] = [
+const NUMBERS: [&str; 24] = [
     "start N",
+    "load N",
+    "load 1 N 3",
     "feed A N",
     "mask N",
     "radius N",
@@ -72,9 +74,18 @@ fn words_that_are_no_numbers() {
     assert_no_calls_with(&NUMBERS, &words);
 }
 
-/// Ends and values beyond 16 bits, indexes beyond a machine word, numbers beyond it.
+/// Ends and values beyond 16 bits, lifts beyond a byte, indexes beyond a machine word, numbers
+/// beyond it.
 #[test]
 fn numbers_beyond_their_types() {
+    let lifts = [
+        "load N",
+        "load N 1",
+        "load 1 1 1 1 1 1 1 1 1 1 1 1 1 1 1 1 1 1 1 1 1 1 1 1 1 N",
+        "poke lifts 0 N",
+        "poke codes 0 N",
+    ];
+    assert_no_calls_with(&lifts, &["256", "257", "511", "65537"]);
     let ends = ["show A 1 N", "show A 1 N 1", "show AB 1 1 N"];
     let values = [
         "poke letters 0 N",
@@ -90,6 +101,7 @@ fn numbers_beyond_their_types() {
     for far in [&beyond_16_bits[..], &beyond_a_word] {
         assert_no_calls_with(&ends, far);
         assert_no_calls_with(&values, far);
+        assert_no_calls_with(&lifts, far);
     }
     assert_no_calls_with(
         &["numbers N 1 1", "numbers 1 N 1", "numbers 1 1 N"],

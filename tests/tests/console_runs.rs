@@ -16,7 +16,7 @@ use console::compare;
 use refusals::refusals;
 
 /// Lines that are no call.
-const NO_CALLS: [&str; 8] = [
+const NO_CALLS: [&str; 10] = [
     "",
     "feed",
     "feed AB",
@@ -25,6 +25,8 @@ const NO_CALLS: [&str; 8] = [
     "mask -1",
     r"picks A\q",
     "peek rows 2049",
+    "load 1 256",
+    "load A",
 ];
 
 /// A line of some call, some of them as only the console takes them.
@@ -33,7 +35,10 @@ fn some_line(generator: &mut Generator, n: usize) -> String {
     match generator.below(24) {
         0 => some_picks(generator),
         1 => "numbers".to_string(),
-        2 => format!("peek letters {}", generator.below(n + 2)),
+        2 => {
+            let name = ["letters", "codes", "lifts"][generator.below(3)];
+            format!("peek {name} {}", generator.below(n + 2))
+        }
         3 => NO_CALLS[generator.below(NO_CALLS.len())].to_string(),
         4 => format!("\t{}  \r", call.replace(' ', "\t ")),
         5 => format!("{call}000000000000000000000"),

@@ -12,6 +12,10 @@ use std::process::{Command, Output, Stdio};
 /// What `--help` prints.
 const HELP: &str = "console/help.txt";
 
+/// A line that is answered before any start, and its answer.
+const LINE: &str = "show AB 2 1 2";
+const ANSWER: &str = "ok | B\n";
+
 /// All that the command gives, on one line as its input.
 fn output_of(mut command: Command, line: &str) -> Output {
     command.stdin(Stdio::piped());
@@ -78,7 +82,7 @@ fn arguments() {
     for arguments in [&["8"][..], &[""], &["-h"], &["--all", "--all"]] {
         let mut command = folder.command("board");
         command.args(arguments);
-        let output = output_of(command, "lift A");
+        let output = output_of(command, LINE);
         assert_eq!(output.stdout, b"", "{arguments:?}");
         assert_eq!(output.stderr, help, "{arguments:?}");
         assert_eq!(output.status.code(), Some(2), "{arguments:?}");
@@ -102,8 +106,8 @@ fn symbolic_links() {
         symlink(target, folder.path().join(link)).expect("a link");
     }
     for path in ["bin/console", "bin/folder/board"] {
-        let output = output_of(folder.command(path), "lift A");
-        assert_eq!(output.stdout, b"ok 3\n", "{path}");
+        let output = output_of(folder.command(path), LINE);
+        assert_eq!(output.stdout, ANSWER.as_bytes(), "{path}");
         assert_eq!(output.status.code(), Some(0), "{path}");
     }
 }
@@ -117,14 +121,14 @@ fn newer_sources() {
         for part in MADE {
             write(folder.path().join(part).join("made"), "").expect("room for a file");
         }
-        assert_answers(&folder, &[], "lift A", "ok 3\n");
+        assert_answers(&folder, &[], LINE, ANSWER);
         let begun = folder.path().join("target/console.begun");
         assert!(!begun.exists(), "built with no newer source");
         write(folder.path().join(source), "").expect("room for a file");
-        let output = output_of(folder.command("board"), "lift A");
-        assert_eq!(output.stdout, b"ok 3\n", "{source}");
+        let output = output_of(folder.command("board"), LINE);
+        assert_eq!(output.stdout, ANSWER.as_bytes(), "{source}");
         assert!(begun.exists(), "not built though {source} is newer");
-        assert_answers(&folder, &[], "lift A", "ok 3\n");
+        assert_answers(&folder, &[], LINE, ANSWER);
     }
 }
 
@@ -137,7 +141,7 @@ fn a_step_that_fails() {
         write(newer, "").expect("room for a file");
         let failing = "echo what is wrong; exit 3";
         write(folder.path().join(step), failing).expect("room for a file");
-        let output = output_of(folder.command("board"), "lift A");
+        let output = output_of(folder.command("board"), LINE);
         let said = String::from_utf8_lossy(&output.stderr);
         assert!(said.contains("what is wrong\n"), "{step}: {said}");
         assert!(said.contains(name), "{step}: {said}");

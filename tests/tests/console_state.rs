@@ -12,6 +12,7 @@ mod refusals;
 
 use call_lines::{session, some_call};
 use comparison::library::{Board, GATHERED, HEADS, LENDS, NEXT, PREV, RADIUS, ROWS};
+use comparison::plain::{fixed_lifts, word};
 use comparison::samples::Generator;
 use comparison::spoken::{Array, ARRAYS};
 use comparison::structured::broken_cubes;
@@ -106,8 +107,8 @@ fn some_pokes(generator: &mut Generator, count: usize) -> String {
     input
 }
 
-/// After a start every entry is 0 but rows 0 and gathered 0, which are 1, and the numbers
-/// are 0, K and 1, whatever was stored.
+/// After a start every entry is 0 but rows 0 and gathered 0, which are 1, and the fixed
+/// lifts; and the numbers are 0, K and 1, whatever was stored.
 #[test]
 fn a_start() {
     let generator = &mut Generator(72);
@@ -117,9 +118,10 @@ fn a_start() {
     let answers = compare(false, format!("{stored}start 5\nnumbers\n{peeks}"));
     let after = &answers[2_001..];
     assert_eq!(after[..2], ["ok", "ok 0 5 1"]);
-    let ones: Vec<usize> = (2..after.len()).filter(|&at| after[at] != "ok 0").collect();
-    assert_eq!(ones.len(), 2, "entries other than 0");
-    assert!(ones.iter().all(|&at| after[at] == "ok 1"), "{ones:?}");
+    let others = after[2..].iter().filter(|answer| *answer != "ok 0");
+    let lifts = fixed_lifts().map(|lift| format!("ok {lift}"));
+    let expected = [&lifts[..], &["ok 1".into(), "ok 1".into()]].concat();
+    assert!(others.eq(&expected), "entries other than 0");
     let peeks = peeks_to(99);
     compare(false, format!("{stored}start 9\nnumbers\n{peeks}"));
 }
@@ -142,15 +144,28 @@ fn the_names_of_the_arrays() {
     ];
     let last = 2 * draft.len() + 3;
     let answers = compare(false, format!("start 8\npicks {picks}\n{}", peeks_to(last)));
-    let (letters, rest) = answers[1 + draft.len()..].split_at(last + 1);
-    let stored = draft.iter().map(|letter| format!("ok {letter}"));
-    assert!(stored.eq(letters[..draft.len()].iter().cloned()), "letters");
+    let bytes = [
+        &draft,
+        &word(&fixed_lifts(), &draft),
+        &fixed_lifts().to_vec(),
+    ];
+    let mut rest = &answers[1 + draft.len()..];
+    for (bytes, array) in bytes.into_iter().zip(&ARRAYS) {
+        let given;
+        (given, rest) = rest.split_at(array.length.min(last + 1));
+        let stored = bytes.iter().map(|byte| format!("ok {byte}"));
+        assert!(
+            stored.eq(given[..bytes.len()].iter().cloned()),
+            "{}",
+            array.name
+        );
+    }
     for (at, (lane, given)) in lanes.iter().zip(rest.chunks(last + 1)).enumerate() {
         let stored: Vec<String> = lane[..=last]
             .iter()
             .map(|entry| format!("ok {entry}"))
             .collect();
-        let name = ARRAYS[at + 1].name;
+        let name = ARRAYS[at + 3].name;
         assert_eq!(given, stored, "{name}, draft {picks}");
         let alike = lanes.iter().filter(|other| other[..=last] == lane[..=last]);
         assert_eq!(
@@ -224,8 +239,8 @@ fn some_line(generator: &mut Generator, n: usize) -> String {
     }
 }
 
-/// Every call on states that no run made: 1 to 4, 7, 8 and 13 are given as listed, and every
-/// other answer is one that the call can have.
+/// Every call on states that no run made: 1 to 4, 7, 8 and 13 to 16 are given as listed, and
+/// every other answer is one that the call can have.
 #[test]
 fn states_that_no_run_made() {
     let generator = &mut Generator(74);
@@ -246,7 +261,7 @@ fn states_that_no_run_made() {
     }
     let times = refusals(&answers);
     assert!(times[0] > 4_000, "{} are accepted", times[0]);
-    for number in [1, 2, 3, 4, 5, 7, 8, 9, 10, 13] {
+    for number in [1, 2, 3, 4, 5, 7, 8, 9, 10, 13, 14, 15, 16] {
         assert!(times[number] > 0, "number {number} is never given");
     }
 }

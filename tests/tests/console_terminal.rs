@@ -170,6 +170,8 @@ fn output_that_is_no_terminal() {
 fn errors_that_go_to_no_terminal() {
     let folder = Folder::new("board", "errors");
     let mut terminal = Terminal::running(&folder, &["sh", "-c", "exec ./board 2>errors"]);
+    terminal.key(b"start 8\r");
+    terminal.shows("start 8\nok\n", "line mode");
     terminal.key(b"lift C\x7fA\r");
     terminal.shows("lift C\x08 \x08A\nok 3\n", "line mode");
     terminal.key(CTRL_D);

@@ -67,13 +67,18 @@ fn compare(program: &Path, input: &str) -> Vec<String> {
     answers
 }
 
-/// Each call with document 01's worked examples, in C and in C++.
+/// Each call with document 01's worked examples, and with a mill's own lifts, in C and in
+/// C++.
 #[test]
 fn the_worked_examples() {
-    let session = include_str!("support/sessions/header.txt");
-    assert_session(session, |input| compare(&IN_C, input));
     let in_cpp = program("g++ -x c++ -std=c++11 -O1", SOURCE, "header_calls_cpp");
-    assert_session(session, |input| compare(&in_cpp, input));
+    for session in [
+        include_str!("support/sessions/header.txt"),
+        include_str!("support/sessions/header_lifts.txt"),
+    ] {
+        assert_session(session, |input| compare(&IN_C, input));
+        assert_session(session, |input| compare(&in_cpp, input));
+    }
 }
 
 /// Random sessions, arguments beyond the script's fields among them.
@@ -122,6 +127,44 @@ fn arguments_beyond_the_fields() {
     assert_eq!(refused, None, "calls that are lent very much");
 }
 
+/// A load of this table.
+fn load(table: &[u8]) -> String {
+    let bytes: String = table.iter().map(|byte| format!(" {byte}")).collect();
+    format!("load{bytes}\n")
+}
+
+/// Tables that would be 26 bytes where their count is cut to a byte or two, and that are
+/// longer than the script's field can say: 14 in its order, behind 7 and before 15 and 16.
+#[test]
+fn tables_beyond_the_field() {
+    let far = [26 + (1 << 8), (1 << 16) - 1, 1 << 16, 26 + (1 << 16)];
+    let loads = far.map(|count| load(&vec![1; count]) + &load(&vec![0; count]));
+    let loads = loads.concat();
+    let answers = compare(&IN_C, &format!("{loads}start 8\n{loads}feed 65\n{loads}"));
+    let refused = |number: &str| vec![format!("refused {number}"); 8];
+    assert_eq!(answers[..8], refused("7"), "on no draft");
+    assert_eq!(answers[9..17], refused("14"), "on an empty draft");
+    assert_eq!(answers[18..], refused("14"), "behind a pick");
+}
+
+/// Every count of bytes around 26, every place of a 0, and every byte as a lift.
+#[test]
+fn every_place_of_a_table() {
+    let counts = (0..=40).map(|count| load(&vec![7; count]));
+    let zeros = (0..26).flat_map(|place| {
+        let mut table = [7; 26];
+        table[place] = 0;
+        let one = load(&table);
+        table[place..].fill(0);
+        [one, load(&table)]
+    });
+    let lifts = (1..=255).map(|byte| load(&[byte; 26]) + "lift 65\nlift 90\n");
+    let lines: String = counts.chain(zeros).chain(lifts).collect();
+    let answers = compare(&IN_C, &format!("start 8\n{lines}"));
+    let accepted = answers.iter().filter(|answer| *answer == "ok").count();
+    assert_eq!(accepted, 1 + 1 + 255, "loads and a start are accepted");
+}
+
 /// The next shorter ending, and the length and the least period of the one given, at every
 /// centre of many drafts.
 #[test]
@@ -166,6 +209,7 @@ fn a_library_without_the_calls() {
     let output = Command::new(path).output().expect("the program runs");
     let expected = [
         "start 255",
+        "load 255 0",
         "feed 255 0 0",
         "mask 255 0",
         "radius 255 0",
@@ -173,6 +217,7 @@ fn a_library_without_the_calls() {
         "next 255 0 0 0",
         "split 255 0",
         "record 255 0",
+        "lift 255 0",
         "unfold 255 0 0",
         "section 0 0 0 4",
         "",

@@ -22,8 +22,9 @@ const SOURCES: [&str; 4] = [
 ];
 
 /// Each constant in Rattle, in the header and in the Rust package.
-const CONSTANTS: [(&str, &str, usize); 14] = [
+const CONSTANTS: [(&str, &str, usize); 15] = [
     ("PICKS", "BOARD_PICKS", board::PICKS),
+    ("ALPHABET", "BOARD_ALPHABET", board::ALPHABET),
     ("SECTIONS", "BOARD_SECTIONS", board::SECTIONS),
     ("VISITS", "BOARD_VISITS", board::VISITS),
     ("CENTRE_LANES", "BOARD_CENTRE_LANES", board::CENTRE_LANES),
@@ -40,22 +41,28 @@ const CONSTANTS: [(&str, &str, usize); 14] = [
 ];
 
 /// What follows from the sizes of the Rattle types, in C.
-const LAYOUT: [&str; 16] = [
+const LAYOUT: [&str; 22] = [
     "(size_t)BOARD_CALLS == CALLS",
     "BOARD_CENTRES == sizeof(ByCentre) / sizeof(uint16_t)",
     "BOARD_PLACES == sizeof(ByPlace) / sizeof(uint16_t)",
     "BOARD_RECORD == PICKS / 2 + 7 * SECTIONS + 8",
     "BOARD_N == 0 && BOARD_K == 1 && BOARD_LONGEST == 2 && BOARD_NUMBERS == 3",
     "_Generic(&((struct board *)0)->letters, Letters *: 1, default: 0)",
+    "_Generic(&((struct board *)0)->codes, Letters *: 1, default: 0)",
+    "_Generic(&((struct board *)0)->lifts, Lifts *: 1, default: 0)",
     "_Generic(&((struct board *)0)->centres, Centres *: 1, default: 0)",
     "_Generic(&((struct board *)0)->places, Places *: 1, default: 0)",
     "_Generic(&((struct board *)0)->numbers, size_t (*)[3]: 1, default: 0)",
     "sizeof(((struct board *)0)->letters) == sizeof(Letters)",
+    "sizeof(((struct board *)0)->codes) == sizeof(Letters)",
+    "sizeof(((struct board *)0)->lifts) == sizeof(Lifts)",
     "sizeof(((struct board *)0)->centres) == sizeof(Centres)",
     "sizeof(((struct board *)0)->places) == sizeof(Places)",
-    "offsetof(struct board, centres) == sizeof(Letters)",
-    "offsetof(struct board, places) == sizeof(Letters) + sizeof(Centres)",
-    "offsetof(struct board, numbers) == (sizeof(Letters) + sizeof(Centres) + sizeof(Places) + 7) / 8 * 8",
+    "offsetof(struct board, codes) == sizeof(Letters)",
+    "offsetof(struct board, lifts) == 2 * sizeof(Letters)",
+    "offsetof(struct board, centres) == 2 * sizeof(Letters) + sizeof(Lifts)",
+    "offsetof(struct board, places) == offsetof(struct board, centres) + sizeof(Centres)",
+    "offsetof(struct board, numbers) == (offsetof(struct board, places) + sizeof(Places) + 7) / 8 * 8",
     "sizeof(struct board) == offsetof(struct board, numbers) + 3 * sizeof(size_t)",
 ];
 
@@ -68,6 +75,8 @@ fn of_rust() -> Vec<String> {
             offset_of!(State, letters),
             "offsetof(struct board, letters)",
         ),
+        (offset_of!(State, codes), "offsetof(struct board, codes)"),
+        (offset_of!(State, lifts), "offsetof(struct board, lifts)"),
         (
             offset_of!(State, centres),
             "offsetof(struct board, centres)",
@@ -144,7 +153,7 @@ fn undeclared(sources: &str) -> Vec<String> {
 fn the_answers_are_as_long_as_in_the_sources() {
     let sources = sources();
     let count = stateless(&sources).len();
-    assert_eq!(count, 4, "show, lift, unfold and section");
+    assert_eq!(count, 3, "show, unfold and section");
     assert_eq!(undeclared(&sources), [""; 0]);
     let (old, new) = ("answer: &mut [usize; 4]", "answer: &mut [usize; 3]");
     assert_eq!(undeclared(&changed(&sources, old, new)).len(), 1);
@@ -191,6 +200,8 @@ fn a_changed_type_is_refused() {
     let conflict = "conflicting types";
     for (old, new, said) in [
         ("[u8; PICKS]", "[u16; PICKS]", failed),
+        ("[u8; ALPHABET]", "[u8; ALPHABET + 1]", failed),
+        ("[u8; ALPHABET]", "[u16; ALPHABET]", failed),
         ("[u16; PICKS + 1]", "[u16; PICKS + 2]", failed),
         ("[u16; PICKS + 1]", "[u8; PICKS + 1]", failed),
         ("[u16; 2 * PICKS + 2]", "[u16; 2 * PICKS + 1]", failed),
@@ -200,8 +211,8 @@ fn a_changed_type_is_refused() {
             failed,
         ),
         (
-            "pub extern \"C\" fn drive_lift(letter: u8,",
-            "pub extern \"C\" fn drive_lift(letter: u16,",
+            "pub extern \"C\" fn drive_section(record: &[u8], at: usize,",
+            "pub extern \"C\" fn drive_section(record: &[u8], at: u16,",
             conflict,
         ),
         (

@@ -46,17 +46,19 @@ fn the_sentences_are_those_of_the_readme() {
     }
 }
 
-/// The session in the README is as the console prints it.
+/// The sessions in the README, the worked examples and one with a mill's own lifts, are as
+/// the console prints them.
 #[test]
-fn the_session_is_as_the_console_prints_it() {
+fn the_sessions_are_as_the_console_prints_them() {
     let readme = file("README.md");
-    let (_, behind) = readme
-        .split_once("    $ ./board\n")
-        .expect("README.md has no session");
-    let lines = behind.lines().map_while(|line| line.strip_prefix("    "));
-    let session: Vec<&str> = lines.collect();
-    assert!(session.len() > 60, "only {} lines", session.len());
-    compare_session(false, &session.join("\n"));
+    let sessions: Vec<&str> = readme.split("    $ ./board\n").skip(1).collect();
+    assert_eq!(sessions.len(), 2, "sessions in README.md");
+    for (behind, fewest) in sessions.into_iter().zip([60, 20]) {
+        let lines = behind.lines().map_while(|line| line.strip_prefix("    "));
+        let session: Vec<&str> = lines.collect();
+        assert!(session.len() > fewest, "only {} lines", session.len());
+        compare_session(false, &session.join("\n"));
+    }
 }
 
 /// Every call that `help` names has its line in the help text and in docs/HOSTS.md, as it is written.
@@ -83,8 +85,12 @@ fn every_call_is_explained() {
 }
 
 /// Calls as docs/HOSTS.md writes them, and a line of each that is accepted behind those above.
-const ACCEPTED: [(&str, &str); 13] = [
+const ACCEPTED: [(&str, &str); 14] = [
     ("start K", "start 8"),
+    (
+        "load BYTE..",
+        "load 1 1 1 1 1 1 1 1 1 1 1 1 1 1 1 1 1 1 1 1 1 1 1 1 1 1",
+    ),
     ("feed PICK [ENTRIES]", "feed A"),
     ("mask I", "mask 1"),
     ("radius C", "radius 2"),

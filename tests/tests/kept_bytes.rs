@@ -17,11 +17,7 @@ const BYTE: u8 = 0xA5;
 
 #[test]
 fn refused_feeds_keep_the_state_and_the_list() {
-    let full = State {
-        n: MOST_PICKS,
-        most_sections: MOST_SECTIONS,
-        letters: [b'A'; MOST_PICKS],
-    };
+    let full = State::of(&[b'A'; MOST_PICKS], MOST_SECTIONS, &plain::fixed_lifts());
     let odd = State {
         n: MOST_PICKS + 1,
         ..full.clone()
@@ -41,6 +37,32 @@ fn refused_feeds_keep_the_state_and_the_list() {
     }
 }
 
+/// "A refused table leaves the former in force"; an accepted one changes the lifts alone.
+#[test]
+fn loads_keep_the_state() {
+    let tables: [&[u8]; 4] = [&[], &[7; 25], &[7; 27], &[0; 26]];
+    for before in [fed(b"", 8), fed(b"ABA", 8), State::zeros()] {
+        let mut state = before.clone();
+        for table in tables {
+            let refused = calls::load(&mut state, table);
+            assert!(refused.is_err(), "{table:?}");
+            assert!(state == before, "{table:?}");
+        }
+    }
+    let mut state = fed(b"ABA", 8);
+    assert_eq!(calls::load(&mut state, &[7; 26]), Err((16, None)));
+    assert!(state == fed(b"ABA", 8));
+    let before = State {
+        letters: [b'Q'; MOST_PICKS],
+        codes: [99; MOST_PICKS],
+        ..fed(b"", 5)
+    };
+    let mut state = before.clone();
+    assert_eq!(calls::load(&mut state, &[7; 26]), Ok(()));
+    let lifts = [7; 26];
+    assert!(state == State { lifts, ..before });
+}
+
 #[test]
 fn accepted_feeds_keep_the_entries_past_the_visits() {
     for draft in every_draft_to(2, 9).filter(|draft| !draft.is_empty()) {
@@ -55,6 +77,8 @@ fn accepted_feeds_keep_the_entries_past_the_visits() {
         assert_eq!(list.to_vec(), expected, "{text}");
         assert_eq!(state.n, draft.len(), "{text}");
         assert_eq!(state.letters[..state.n], draft, "{text}");
+        let word = plain::word(&state.lifts, &draft);
+        assert_eq!(state.codes[..state.n], word, "{text}");
     }
 }
 

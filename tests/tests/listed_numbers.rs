@@ -5,8 +5,9 @@ mod some_calls;
 
 use comparison::calls::State;
 use comparison::listed::{found, listed};
+use comparison::plain::fixed_lifts;
 use comparison::samples::Generator;
-use comparison::scripted::Call;
+use comparison::scripted::{number_of, Call};
 use comparison::MOST_PICKS;
 use some_calls::some_call;
 
@@ -14,8 +15,7 @@ use some_calls::some_call;
 fn stored(n: usize, most_sections: usize) -> State {
     State {
         n,
-        most_sections,
-        letters: [65; MOST_PICKS],
+        ..State::of(&[65; MOST_PICKS], most_sections, &fixed_lifts())
     }
 }
 
@@ -27,10 +27,11 @@ fn assert_listed(call: Call, state: &State) {
     let reply = call.make(&mut state.clone(), list, output);
     let case = format!("{call:?}, n {}, K {}", state.n, state.most_sections);
     match listed(call, state.n, state.most_sections) {
-        Some(number) => assert_eq!(reply, Err(number), "{case}"),
+        Some(refusal) => assert_eq!(reply, Err(refusal), "{case}"),
         None => {
             let by_finding = |number| found(call).contains(&number);
-            assert!(reply.err().is_none_or(by_finding), "{reply:?}, {case}");
+            let number = number_of(reply);
+            assert!(number.is_none_or(by_finding), "{reply:?}, {case}");
         }
     }
 }

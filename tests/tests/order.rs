@@ -4,16 +4,13 @@
 mod fed;
 
 use comparison::calls::{self, State};
+use comparison::plain::fixed_lifts;
 use comparison::{MOST_PICKS, MOST_SECTIONS, VISIT_ROOM};
 use fed::fed;
 
 /// A full draft with K as stored.
 fn full(most_sections: usize) -> State {
-    State {
-        n: MOST_PICKS,
-        most_sections,
-        letters: [b'A'; MOST_PICKS],
-    }
+    State::of(&[b'A'; MOST_PICKS], most_sections, &fixed_lifts())
 }
 
 /// Feed: 7, then 2, then 3, then 8.
@@ -88,6 +85,35 @@ fn record() {
     assert_eq!(calls::folded_record(&state, 3, 1, &mut []), Err(4));
     assert_eq!(calls::folded_record(&state, 2, 1, &mut []), Err(9));
     assert_eq!(calls::folded_record(&state, 2, 2, &mut []), Err(5));
+}
+
+/// Lift: 7, then 2.
+#[test]
+fn lift() {
+    let state = fed(b"AB", MOST_SECTIONS);
+    assert_eq!(calls::lift(&full(9), b'a'), Err(7));
+    assert_eq!(calls::lift(&full(9), b'A'), Err(7));
+    assert_eq!(calls::lift(&state, b'a'), Err(2));
+    assert_eq!(calls::lift(&state, b'A'), Ok(3));
+}
+
+/// Load: 7, then 14, then 15, then 16. 25 and 27 bytes may have a 0 among them too.
+#[test]
+fn load() {
+    let (good, with_a_0) = ([7; 26], [0; 26]);
+    let others: [&[u8]; 4] = [&[7; 25], &[7; 27], &[0; 25], &[0; 27]];
+    for table in [&good[..], &with_a_0].into_iter().chain(others) {
+        assert_eq!(calls::load(&mut full(9), table), Err((7, None)));
+        assert_eq!(calls::load(&mut State::zeros(), table), Err((7, None)));
+    }
+    for table in others {
+        assert_eq!(calls::load(&mut full(8), table), Err((14, None)));
+        assert_eq!(calls::load(&mut fed(b"", 8), table), Err((14, None)));
+    }
+    assert_eq!(calls::load(&mut full(8), &with_a_0), Err((15, Some(0))));
+    assert_eq!(calls::load(&mut fed(b"", 8), &with_a_0), Err((15, Some(0))));
+    assert_eq!(calls::load(&mut full(8), &good), Err((16, None)));
+    assert_eq!(calls::load(&mut fed(b"", 8), &good), Ok(()));
 }
 
 /// Show: 4, then 6.

@@ -4,6 +4,7 @@
 mod fed;
 
 use comparison::calls::{self, NextEnding, State};
+use comparison::plain::fixed_lifts;
 use comparison::{MOST_PICKS, MOST_SECTIONS, VISIT_ROOM};
 use fed::fed;
 
@@ -11,14 +12,13 @@ use fed::fed;
 fn stored(n: usize, most_sections: usize) -> State {
     State {
         n,
-        most_sections,
-        letters: [b'A'; MOST_PICKS],
+        ..State::of(&[b'A'; MOST_PICKS], most_sections, &fixed_lifts())
     }
 }
 
 /// What each call that is given a state, other than start, refuses with, on inputs
 /// that no other line refuses; none when accepted.
-fn numbers_of_all_calls(state: &State) -> [Option<u8>; 7] {
+fn numbers_of_all_calls(state: &State) -> [Option<u8>; 9] {
     [
         calls::feed(&mut state.clone(), b'A', &mut [0; VISIT_ROOM]).err(),
         calls::mask_of_prefix(state, 1).err(),
@@ -27,7 +27,18 @@ fn numbers_of_all_calls(state: &State) -> [Option<u8>; 7] {
         calls::next_ending(state, 2 * state.n).err(),
         calls::split(state, 1, 1, &mut [0; 1]).err(),
         calls::folded_record(state, 1, 1, &mut [0; 8]).err(),
+        calls::lift(state, b'A').err(),
+        load_number(state, &[7; 26]),
     ]
+}
+
+/// The number that a load is refused with, which is no 15.
+fn load_number(state: &State, table: &[u8]) -> Option<u8> {
+    let refusal = calls::load(&mut state.clone(), table).err();
+    refusal.map(|(number, place)| {
+        assert_eq!(place, None, "number {number}");
+        number
+    })
 }
 
 #[test]
@@ -69,7 +80,7 @@ fn number_2_in_feed_and_lift() {
         let fed_number = calls::feed(&mut state, byte, &mut [0; VISIT_ROOM]).err();
         let expected = (!(65..=90).contains(&byte)).then_some(2);
         assert_eq!(fed_number, expected, "byte {byte}");
-        assert_eq!(calls::lift(byte).err(), expected, "byte {byte}");
+        assert_eq!(calls::lift(&state, byte).err(), expected, "byte {byte}");
     }
 }
 
@@ -231,14 +242,17 @@ fn number_7() {
     let odd = [(2_049, 8), ((1 << 16) + 3, 8), (3, 0), (3, 9), (3, 256 + 8)];
     for (n, most_sections) in odd {
         let numbers = numbers_of_all_calls(&stored(n, most_sections));
-        assert_eq!(numbers, [Some(7); 7], "n {n}, K {most_sections}");
+        assert_eq!(numbers, [Some(7); 9], "n {n}, K {most_sections}");
         let mut started = stored(n, most_sections);
         assert_eq!(calls::start(&mut started, 4), Ok(()));
         assert_eq!(started, fed(b"", 4), "n {n}, K {most_sections}");
     }
     for most_sections in [1, 8] {
-        assert_eq!(numbers_of_all_calls(&stored(3, most_sections)), [None; 7]);
-        let mut full = [None; 7];
+        let mut expected = [None; 9];
+        expected[8] = Some(16);
+        let numbers = numbers_of_all_calls(&stored(3, most_sections));
+        assert_eq!(numbers, expected, "K {most_sections}");
+        let mut full = expected;
         full[0] = Some(8);
         let numbers = numbers_of_all_calls(&stored(2_048, most_sections));
         assert_eq!(numbers, full, "K {most_sections}");
@@ -252,6 +266,43 @@ fn number_8() {
     assert!(calls::feed(&mut state, b'B', list).is_ok());
     assert_eq!(calls::feed(&mut state, b'B', list), Err(8));
     assert_eq!(state.n, 2_048);
+}
+
+#[test]
+fn number_14() {
+    let state = fed(b"", MOST_SECTIONS);
+    for length in (0..=60).chain([255, 256 + 26, 65_536 + 26]) {
+        let expected = (length != 26).then_some(14);
+        let number = load_number(&state, &vec![255; length]);
+        assert_eq!(number, expected, "{length} bytes");
+    }
+}
+
+/// The first 0 of one, of two and of all from a place on.
+#[test]
+fn number_15() {
+    let mut state = fed(b"", MOST_SECTIONS);
+    for first in 0..26 {
+        for second in first..26 {
+            let mut table = [1; 26];
+            (table[first], table[second]) = (0, 0);
+            let expected = Err((15, Some(first)));
+            assert_eq!(calls::load(&mut state, &table), expected, "{second}");
+            table[first..].fill(0);
+            assert_eq!(calls::load(&mut state, &table), expected);
+        }
+    }
+    assert_eq!(calls::load(&mut state, &[1; 26]), Ok(()));
+}
+
+#[test]
+fn number_16() {
+    assert_eq!(load_number(&fed(b"", 8), &[1; 26]), None);
+    assert_eq!(load_number(&fed(b"A", 8), &[1; 26]), Some(16));
+    assert_eq!(load_number(&stored(2_048, 8), &[1; 26]), Some(16));
+    let mut again = fed(b"A", 8);
+    assert_eq!(calls::start(&mut again, 8), Ok(()));
+    assert_eq!(load_number(&again, &[1; 26]), None);
 }
 
 #[test]

@@ -1,13 +1,15 @@
 //! Runs of calls beside the plain book: every answer is the one read from the book's
-//! K and letters, and a start or a feed is accepted exactly when the book takes it.
+//! K, letters and lifts, and a start, a feed or a load is accepted exactly when the book
+//! takes it.
 
 #[path = "support/turns.rs"]
 mod turns;
 
 use comparison::book::Book;
-use comparison::calls::{self, Answer, State, Taken};
+use comparison::calls::{self, Answer, Placed, State, Taken};
 use comparison::samples::Generator;
-use comparison::{plain, MOST_PICKS, VISIT_ROOM};
+use comparison::tables::some_table;
+use comparison::{plain, LETTERS, MOST_PICKS, VISIT_ROOM};
 use turns::turns_by_parts;
 
 /// A call of a run with its arguments.
@@ -17,13 +19,20 @@ enum Call {
     Feed(u8, usize),
     Split(usize, usize, usize),
     LongestCentre,
+    Load(Vec<u8>),
+    Lift(u8),
 }
 
 /// A call with arguments inside and outside their bounds; starts are few, so that the
-/// draft grows.
-fn some_call(generator: &mut Generator) -> Call {
-    match generator.below(20) {
+/// draft grows. Loads are many while it is empty.
+fn some_call(generator: &mut Generator, n: usize) -> Call {
+    if n == 0 && generator.below(3) > 0 {
+        return Call::Load(some_table(generator).bytes());
+    }
+    match generator.below(23) {
         0 => Call::Start(generator.below(11)),
+        20 => Call::Load(some_table(generator).bytes()),
+        21..=22 => Call::Lift(some_pick(generator)),
         1..=11 => Call::Feed(some_pick(generator), 17 + generator.below(6)),
         12..=16 => Call::Split(
             generator.below(12),
@@ -51,9 +60,9 @@ fn feed_by_book(book: &Book, taken: bool, pick: u8, entries: usize) -> (Answer<T
         };
         return (Err(number), Vec::new());
     }
-    let visits = plain::visits(&book.row);
+    let visits = plain::visits(&book.word());
     let answer = Taken {
-        mask: plain::mask(&book.row, book.most_sections),
+        mask: plain::mask(&book.word(), book.most_sections),
         visits: visits.len(),
     };
     (Ok(answer), visits.iter().map(|&l| l as u16).collect())
@@ -70,11 +79,23 @@ fn split_by_book(book: &Book, i: usize, k: usize, entries: usize) -> (Answer<usi
     if i > book.row.len() {
         return (Err(4), Vec::new());
     }
-    let Some(ends) = plain::named_split(&book.row[..i], k) else {
+    let Some(ends) = plain::named_split(&book.word()[..i], k) else {
         return (Err(9), Vec::new());
     };
     let turns = turns_by_parts(&book.row, &ends);
     (Ok(turns), ends.iter().map(|&end| end as u16).collect())
+}
+
+/// The number of a load that the book does not take, and its place.
+fn load_by_book(book: &Book, table: &[u8]) -> Placed {
+    match table.iter().position(|&lift| lift == 0) {
+        _ if table.len() != 26 => (14, None),
+        Some(place) => (15, Some(place)),
+        None => {
+            assert!(!book.row.is_empty(), "{book:?} {table:?}");
+            (16, None)
+        }
+    }
 }
 
 /// A list of so many entries, each holding 500 but for those of the front.
@@ -110,8 +131,20 @@ fn assert_call(state: &mut State, book: &mut Book, call: &Call) -> Option<usize>
             return answer.ok().map(|turns| k - turns);
         }
         Call::LongestCentre => {
-            let expected = Ok(plain::longest_centre(&book.row));
+            let expected = Ok(plain::longest_centre(&book.word()));
             assert_eq!(calls::longest_centre(state), expected, "{book:?}");
+        }
+        Call::Load(ref table) => {
+            let before = book.clone();
+            let expected = match book.load(table) {
+                true => Ok(()),
+                false => Err(load_by_book(&before, table)),
+            };
+            assert_eq!(calls::load(state, table), expected, "{before:?} {table:?}");
+        }
+        Call::Lift(letter) => {
+            let expected = plain::lift(&book.lifts, letter).ok_or(2);
+            assert_eq!(calls::lift(state, letter), expected, "{book:?} {letter}");
         }
     }
     None
@@ -123,6 +156,8 @@ fn first_state(generator: &mut Generator) -> State {
         n: generator.below(5_000),
         most_sections: generator.below(300),
         letters: [generator.below(256) as u8; MOST_PICKS],
+        codes: [generator.below(256) as u8; MOST_PICKS],
+        lifts: [generator.below(256) as u8; LETTERS],
     }
 }
 
@@ -138,10 +173,12 @@ fn every_answer_of_a_run_is_the_books() {
         let most_sections = 1 + generator.below(8);
         assert_call(&mut state, &mut book, &Call::Start(most_sections));
         for _ in 0..24 {
-            let call = some_call(&mut generator);
+            let call = some_call(&mut generator, book.row.len());
             of_one_pick.extend(assert_call(&mut state, &mut book, &call));
             assert_eq!(state.most_sections, book.most_sections, "{call:?}");
             assert_eq!(state.letters[..state.n], book.row, "{call:?}");
+            assert_eq!(state.codes[..state.n], book.word(), "{call:?}");
+            assert_eq!(state.lifts, book.lifts, "{call:?}");
         }
     }
     for count in 0..4 {
@@ -172,11 +209,11 @@ fn reading_calls_leave_the_run_as_it_is() {
             let next = calls::next_ending(&state, any);
             assert_eq!(
                 next.ok(),
-                plain::next_ending(&book.row, any),
+                plain::next_ending(&book.word(), any),
                 "{book:?} {any}"
             );
             assert!(state == before);
-            let call = some_call(&mut generator);
+            let call = some_call(&mut generator, book.row.len());
             assert_call(&mut state, &mut book, &call);
         }
     }
@@ -195,7 +232,7 @@ fn two_states_in_turn() {
         }
         for _ in 0..20 {
             let at = generator.below(2);
-            let call = some_call(&mut generator);
+            let call = some_call(&mut generator, books[at].row.len());
             assert_call(&mut states[at], &mut books[at], &call);
         }
     }
@@ -221,6 +258,29 @@ fn what_the_book_takes() {
     assert!(!book.start(0) && book.row.len() == 2_048);
     assert!(book.start(5));
     assert_eq!((book.most_sections, book.row.len()), (5, 0));
+}
+
+/// The book takes 26 lifts and no other number of them, none of them 0, while its row is
+/// empty; and the fixed ones at each start that it takes.
+#[test]
+fn which_lifts_the_book_takes() {
+    let mut book = Book::default();
+    assert!(book.start(8));
+    let fixed = book.lifts;
+    assert_eq!((fixed[0], fixed[25]), (3, 96));
+    assert!(!book.load(&[7; 25]) && !book.load(&[7; 27]) && !book.load(&[]));
+    for place in 0..26 {
+        let mut table = [7; 26];
+        table[place] = 0;
+        assert!(!book.load(&table), "a 0 at {place}");
+    }
+    assert_eq!(book.lifts, fixed);
+    assert!(book.load(&[7; 26]) && book.lifts == [7; 26]);
+    assert!(!book.start(9) && book.lifts == [7; 26]);
+    assert!(book.feed(b'A', 19) && !book.load(&[8; 26]));
+    assert_eq!((book.lifts, book.word()), ([7; 26], vec![7]));
+    assert!(book.start(1) && book.lifts == fixed);
+    assert!(book.load(&[255; 26]) && book.load(&[1; 26]) && book.lifts == [1; 26]);
 }
 
 /// "No accepted feed makes that number smaller": the centre of the longest ending.

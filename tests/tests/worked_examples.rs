@@ -9,7 +9,7 @@ mod fed;
 mod turn_counts;
 
 use both::both;
-use comparison::calls::{self, NextEnding};
+use comparison::calls::{self, NextEnding, State};
 use comparison::fast::Fast;
 use comparison::samples::{every_draft_to, repeated};
 use comparison::{plain, FIRST_PICK, LAST_PICK, MOST_PICKS, MOST_SECTIONS, VISIT_ROOM};
@@ -204,10 +204,11 @@ fn turn_counts() {
 
 #[test]
 fn lifts_are_26_distinct_bytes_of_two_bits() {
-    assert_eq!(calls::lift(b'A'), Ok(3));
-    assert_eq!(calls::lift(b'Z'), Ok(96));
+    let started = State::empty(MOST_SECTIONS);
+    assert_eq!(calls::lift(&started, b'A'), Ok(3));
+    assert_eq!(calls::lift(&started, b'Z'), Ok(96));
     let mut lifts: Vec<u8> = (FIRST_PICK..=LAST_PICK)
-        .map(|letter| calls::lift(letter).unwrap())
+        .map(|letter| calls::lift(&started, letter).unwrap())
         .collect();
     assert!(lifts.iter().all(|lift| lift.count_ones() == 2));
     lifts.sort_unstable();
@@ -221,7 +222,8 @@ fn lifts_in_letter_order_are_the_pairs_of_harnesses() {
     let pairs = (1..=7).flat_map(|one| (one + 1..=8).map(move |other| (one, other)));
     for (letter, (one, other)) in (FIRST_PICK..=LAST_PICK).zip(pairs) {
         let lifted = 2u8.pow(one - 1) + 2u8.pow(other - 1);
-        assert_eq!(plain::lift(letter), Some(lifted), "letter {letter}");
+        let lift = plain::lift(&plain::fixed_lifts(), letter);
+        assert_eq!(lift, Some(lifted), "letter {letter}");
     }
 }
 

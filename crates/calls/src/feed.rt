@@ -6,11 +6,15 @@ ghost use Rattle.cells.specs.Lanes.{byCentre, byPlace};
 ghost use Rattle.promises.specs.State.{draftIn};
 ghost use Rattle.promises.specs.Promises.{FeedPromise, maskByte};
 ghost use Rattle.promises.specs.Lent.{fedAs};
+use crate::lift::lift_in;
 use crate::mask::mask_byte;
 use cells::Centres;
 use cells::Letters;
+use cells::Lifts;
 use cells::Numbers;
+use cells::Place;
 use cells::Places;
+use cells::store_letter;
 use engine::append::Appended;
 use engine::append::append;
 use promises::FeedAnswer;
@@ -39,8 +43,11 @@ fn taken(a: Appended, held: Numbers) -> Step
     }
 }
 
+// The letter is stored as it is; the engine takes the pick's lift in force.
 pub fn feed(
     letters: &mut Letters,
+    codes: &mut Letters,
+    lifts: &Lifts,
     centres: &mut Centres,
     places: &mut Places,
     visits: &mut [u16],
@@ -48,8 +55,11 @@ pub fn feed(
     pick: u8,
 ) -> Step
     ensures { λ r. ⌜ FeedPromise
-        (draftIn held (now (letters .entry)) (byCentre (now (centres .entry))) (byPlace (now (places .entry)))) pick (now (visits .entry))
-        (fedAs (r .answer) (draftIn (r .numbers) (now (letters .exit)) (byCentre (now (centres .exit))) (byPlace (now (places .exit))))) (now (visits .exit)) ⌝ }
+        (draftIn held (now (letters .entry)) (now (codes .entry)) (now (lifts .entry)) (byCentre (now (centres .entry))) (byPlace (now (places .entry))))
+        pick (now (visits .entry))
+        (fedAs (r .answer)
+        (draftIn (r .numbers) (now (letters .exit)) (now (codes .exit)) (now (lifts .entry)) (byCentre (now (centres .exit))) (byPlace (now (places .exit)))))
+        (now (visits .exit)) ⌝ }
 {
     let number = feed_refusal(held, pick, visits.len());
     if 0 < number {
@@ -58,6 +68,8 @@ pub fn feed(
             numbers: held,
         };
     }
-    let a = append(letters, centres, places, visits, held, pick);
+    let code = lift_in(lifts, pick);
+    let a = append(codes, centres, places, visits, held, code);
+    store_letter(letters, Place(held.n), pick);
     taken(a, held)
 }

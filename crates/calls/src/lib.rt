@@ -1,8 +1,9 @@
-// Document 01's calls, each on what it is lent of a state: start and feed on all of it, the others on the lanes that they read;
-// show and lift are given no state.
+// The calls, each on what it is lent of a state: start and feed on all of it, load on the table of lifts, the others on the parts
+// that they read; show is given no state.
 pub mod feed;
 pub mod fold;
 pub mod lift;
+pub mod load;
 pub mod longest;
 pub mod mask;
 pub mod next;

@@ -11,6 +11,7 @@ use cells::Centre;
 use cells::Centres;
 use cells::GATHERED;
 use cells::Letters;
+use cells::Lifts;
 use cells::Numbers;
 use cells::PICKS;
 use cells::PLACE_LANES;
@@ -27,13 +28,45 @@ pub struct Begin {
     pub numbers: Numbers,
 }
 
+// The fixed table: two of eight harnesses for each of A to Z.
+const LIFTS: Lifts = [
+    3,
+    5,
+    9,
+    17,
+    33,
+    65,
+    129,
+    6,
+    10,
+    18,
+    34,
+    66,
+    130,
+    12,
+    20,
+    36,
+    68,
+    132,
+    24,
+    40,
+    72,
+    136,
+    48,
+    80,
+    144,
+    96,
+];
+
 // The arrays of no letter: all is 0 but the row word of prefix 0, which has bit 0 alone, and its gathered word.
-fn clear(letters: &mut Letters, centres: &mut Centres, places: &mut Places)
+fn clear(letters: &mut Letters, codes: &mut Letters, centres: &mut Centres, places: &mut Places)
     ensures { λ r. ⌜ now (letters .exit) ≡ replicate mostPicks 0 ⌝ }
+    ensures coded { λ r. ⌜ now (codes .exit) ≡ replicate mostPicks 0 ⌝ }
     ensures centred { λ r. ⌜ byCentre (now (centres .exit)) ≡ centresOf (fresh 0) ⌝ }
     ensures placed { λ r. ⌜ byPlace (now (places .exit)) ≡ placesOf (fresh 0) ⌝ }
 {
     *letters = [0u8; PICKS];
+    *codes = [0u8; PICKS];
     *centres = [[0u16; 2 * PICKS + 2]; CENTRE_LANES];
     *places = [[0u16; PICKS + 1]; PLACE_LANES];
     store_at_place(places, ROWS, Place(0), 1);
@@ -43,14 +76,17 @@ fn clear(letters: &mut Letters, centres: &mut Centres, places: &mut Places)
 // A start on whatever is stored: `held` are the numbers stored.
 pub fn start(
     letters: &mut Letters,
+    codes: &mut Letters,
+    lifts: &mut Lifts,
     centres: &mut Centres,
     places: &mut Places,
     held: Numbers,
     k: u8,
 ) -> Begin
     ensures { λ r. ⌜ StartPromise
-        (draftIn held (now (letters .entry)) (byCentre (now (centres .entry))) (byPlace (now (places .entry)))) k
-        (startedAs (r .answer) (draftIn (r .numbers) (now (letters .exit)) (byCentre (now (centres .exit))) (byPlace (now (places .exit))))) ⌝ }
+        (draftIn held (now (letters .entry)) (now (codes .entry)) (now (lifts .entry)) (byCentre (now (centres .entry))) (byPlace (now (places .entry)))) k
+        (startedAs (r .answer)
+        (draftIn (r .numbers) (now (letters .exit)) (now (codes .exit)) (now (lifts .exit)) (byCentre (now (centres .exit))) (byPlace (now (places .exit))))) ⌝ }
 {
     let number = start_refusal(k);
     if 0 < number {
@@ -59,7 +95,8 @@ pub fn start(
             numbers: held,
         };
     }
-    clear(letters, centres, places);
+    clear(letters, codes, centres, places);
+    *lifts = LIFTS;
     Begin {
         answer: StartAnswer::Begun,
         numbers: Numbers {

@@ -33,6 +33,11 @@ pub type ByPlace = [u16; PICKS + 1];
 
 pub type ByCentre = [u16; 2 * PICKS + 2];
 
+// A lift for each letter, A to Z.
+pub const ALPHABET: usize = 26;
+
+pub type Lifts = [u8; ALPHABET];
+
 // The stored arrays by centre, and those by place, are the lanes of one array each: radii, lend lists, the list of the
 // endings' centres forward and backward; heads of the lend lists, row words, gathered words.
 pub const CENTRE_LANES: usize = 4;

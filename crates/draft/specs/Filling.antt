@@ -21,13 +21,13 @@ use Rattle.promises.specs.declared.Started.{Started}
 use Rattle.promises.specs.declared.FeedAnswer.{FeedAnswer}
 use Rattle.promises.specs.Answers.{Said, gave, refused, refusedAt, feedSays}
 use Rattle.promises.specs.Refusals.{startRefusal, feedRefusal}
-use Rattle.promises.specs.Book.{Book, book, feed, lent, write, fedRow}
+use Rattle.promises.specs.Book.{Book, book, feed, lent, write, fedRow, fedLifted}
 use Rattle.promises.specs.Replies.{refusalOf, foundFor, replyTo}
-use Rattle.promises.specs.BookLaws.{Case, taken, left, feed-cases, unless-zero, unless-not}
+use Rattle.promises.specs.BookLaws.{Case, taken, left, unless-zero, unless-not}
 use Rattle.words.specs.Ranges.{between, between-true}
 use Rattle.promises.specs.State.{numbersOf, withPick}
 use Rattle.promises.specs.Holds.{Holds}
-use Rattle.promises.specs.WritingLaws.{start-holds}
+use Rattle.promises.specs.WritingLaws.{held-picks, feed-case, start-holds}
 use Rattle.promises.specs.Promises.{StartPromise, FeedPromise}
 use Rattle.promises.specs.Lent.{fedAs}
 use Rattle.calls.specs.declared.feed.Step.{Step}
@@ -96,7 +96,7 @@ module _ {d e : Draft} {pick : ℕ} {before after : List ℕ} {answer : FeedAnsw
     held = subst (λ v. Holds e (write b (feed pick v))) l (p .meaning b h .holds)
 
     cases : Case (goesOn b pick) (feedRefusal (length (b .row)) (b .K) pick (length visitList))
-    cases = feed-cases b pick mostVisits (h .arrays .fits) (h .least) (h .most)
+    cases = feed-case h pick mostVisits
 
     -- what the book replies to a pick that it does not take
     refuses : (number : ℕ) → feedRefusal (length (b .row)) (b .K) pick (length visitList) ≡ number → number ≢ 0
@@ -109,12 +109,12 @@ module _ {d e : Draft} {pick : ℕ} {before after : List ℕ} {answer : FeedAnsw
     gives z = ap (λ r. isRefused (r .said)) (unless-zero _ visitList _ z)
 
     -- the length of the longest ending from its centre
-    longest-length : (K : ℕ) → Holds e (book K (fedRow b pick))
-        → endingLength (e .n) (e .longest .0) ≡ longest (word (fedRow b pick)) (length (fedRow b pick))
+    longest-length : (K : ℕ) → Holds e (book K (b .lifts) (fedRow b pick))
+        → endingLength (e .n) (e .longest .0) ≡ longest (word (fedLifted b pick)) (length (fedLifted b pick))
     longest-length K g =
-        let w : ℕ → ℕ = word (fedRow b pick) in
-        let n : ℕ = length (fedRow b pick) in
-        omega (arith, g .picks, longest-centre w n, longest-is w n .below, longest-centre-at (g .arrays .iterates .stretches .radii .longest))
+        let w : ℕ → ℕ = word (fedLifted b pick) in
+        let n : ℕ = length (fedLifted b pick) in
+        omega (arith, held-picks g, longest-centre w n, longest-is w n .below, longest-centre-at (g .arrays .iterates .stretches .radii .longest))
 
     line-right : lineOf (d .n) (e .n) (endingLength (e .n) (e .longest .0)) (feedSays answer) ≡ lineFor b pick
     unfolding lineFor lineOf write
@@ -123,7 +123,7 @@ module _ {d e : Draft} {pick : ℕ} {before after : List ℕ} {answer : FeedAnsw
         go : Case (goesOn b pick) (feedRefusal (length (b .row)) (b .K) pick (length visitList))
             → lineOf (d .n) (e .n) (endingLength (e .n) (e .longest .0)) (feedSays answer) ≡ lineFor b pick
         go (taken t z) =
-            let g : Holds e (book (b .K) (fedRow b pick)) = rw t at held in
+            let g : Holds e (book (b .K) (b .lifts) (fedRow b pick)) = rw t at held in
             rw (said, h .picks, longest-length (b .K) g, g .picks)
         go (left t z) = rw (said, refuses _ refl z, h .picks)
 

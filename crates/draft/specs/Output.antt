@@ -10,7 +10,8 @@ use Rattle.words.specs.Computed.{longest}
 use Rattle.words.specs.Ranges.{between}
 use Rattle.text.specs.Definitions.{lineEnd, digitZero}
 use Rattle.promises.specs.Answers.{Said, gave, refused, refusedAt}
-use Rattle.promises.specs.Book.{Book, book, feed, feedTaken, write, fedRow}
+use Rattle.promises.specs.Lifts.{fixedLifts}
+use Rattle.promises.specs.Book.{Book, book, feed, feedTaken, write, fedRow, fedLifted}
 use Rattle.promises.specs.Replies.{replyTo}
 use Rattle.draft.specs.Lines.{headerLine, pickLine, refusalLine}
 
@@ -33,7 +34,8 @@ visitList = replicate mostVisits 0
 unfoldable pub lineFor : Book → (pick : ℕ) → List ℕ
 unfolding lineOf replyTo longest
 lineFor b pick =
-    lineOf (length (b .row)) (length (fedRow b pick)) (longest (word (fedRow b pick)) (length (fedRow b pick))) (replyTo b (feed pick visitList) .said)
+    lineOf (length (b .row)) (length (fedRow b pick)) (longest (word (fedLifted b pick)) (length (fedLifted b pick)))
+    (replyTo b (feed pick visitList) .said)
 
 -- "A refusal .. ends the run": the book takes the pick, or that line is the last
 abbrev pub goesOn : Book → (pick : ℕ) → Bool
@@ -54,4 +56,4 @@ goodFirstLine input = between (digitZero + 1) (digitZero + mostSections) (getD i
 unfoldable pub output : (input : List ℕ) → List ℕ
 unfolding headerLine picksOutput refusalLine
 output input =
-    headerLine ++ cond (goodFirstLine input) (picksOutput (book (getD input 0 0 - digitZero) []) (drop firstLine input)) (refusalLine 1 0)
+    headerLine ++ cond (goodFirstLine input) (picksOutput (book (getD input 0 0 - digitZero) fixedLifts []) (drop firstLine input)) (refusalLine 1 0)

@@ -15,6 +15,7 @@ use calls::feed::feed;
 use cells::Centre;
 use cells::Centres;
 use cells::Letters;
+use cells::Lifts;
 use cells::Numbers;
 use cells::Places;
 use cells::VISITS;
@@ -70,6 +71,8 @@ fn tell(step: Step, n: usize, line: &mut [u8]) -> Answered
 // Feeds the pick after those that `held` tells, and fills the front of the room with its line.
 pub fn answer(
     letters: &mut Letters,
+    codes: &mut Letters,
+    lifts: &Lifts,
     centres: &mut Centres,
     places: &mut Places,
     line: &mut [u8],
@@ -79,10 +82,20 @@ pub fn answer(
     requires { ⌜ (held .n ≤ mostPicks) × (room ≤ length (now line)) ⌝ }
     ensures { λ r. ⌜ Counts (r .bytes) (now (line .exit)) ⌝ }
     ensures { λ r. ⌜ Fills
-        (draftIn held (now (letters .entry)) (byCentre (now (centres .entry))) (byPlace (now (places .entry)))) pick
-        (r .over) (draftIn (r .numbers) (now (letters .exit)) (byCentre (now (centres .exit))) (byPlace (now (places .exit)))) (take (r .bytes) (now (line .exit))) ⌝ }
+        (draftIn held (now (letters .entry)) (now (codes .entry)) (now (lifts .entry)) (byCentre (now (centres .entry))) (byPlace (now (places .entry)))) pick (r .over)
+        (draftIn (r .numbers) (now (letters .exit)) (now (codes .exit)) (now (lifts .entry)) (byCentre (now (centres .exit))) (byPlace (now (places .exit))))
+        (take (r .bytes) (now (line .exit))) ⌝ }
 {
     let mut visits = [0u16; VISITS];
-    let step = feed(letters, centres, places, &mut visits, held, pick);
+    let step = feed(
+        letters,
+        codes,
+        lifts,
+        centres,
+        places,
+        &mut visits,
+        held,
+        pick,
+    );
     tell(step, held.n, line)
 }

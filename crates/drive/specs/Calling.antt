@@ -1,10 +1,9 @@
 -- One call of a script: what the code promises of it.
 use mathlib.Core.Path.{_≡_, refl, sym, ap, _∙_}
 use mathlib.Core.Bool.{true, false, cond, and-eq-true-iff}
-use mathlib.Core.List.{List, [], _∷_, _++_}
+use mathlib.Core.List.{List, [], _++_}
 use mathlib.Core.Option.{Option, some, none}
 use Prim.Native.Nat.{ℕ, _≤_, _<_}
-use native.Mathlib.Omega.{arith}
 use lib.Dec.{leb, ltb}
 use lib.ListN.{length, drop}
 use borrow.Author.Tests.{leb-true, ltb-true, le-leb, lt-ltb}
@@ -12,11 +11,12 @@ use Rattle.cells.specs.declared.Numbers.{Numbers}
 use Rattle.promises.specs.declared.Draft.{Draft}
 use Rattle.promises.specs.declared.StartAnswer.{StartAnswer}
 use Rattle.promises.specs.declared.FeedAnswer.{FeedAnswer}
-use Rattle.promises.specs.Answers.{Reply, startSays, feedSays}
-use Rattle.promises.specs.Book.{Query, Call, start, feed, ask}
-use Rattle.promises.specs.Promises.{StartPromise, FeedPromise, Reads}
-use Rattle.promises.specs.Lent.{startedAs, fedAs}
-use Rattle.promises.specs.Runs.{Made, started, fed, asked, callOf, replyOf, Meets, leaves}
+use Rattle.promises.specs.declared.LoadAnswer.{LoadAnswer}
+use Rattle.promises.specs.Answers.{Reply, startSays, feedSays, loadSays}
+use Rattle.promises.specs.Book.{Query, Call, start, feed, load, ask}
+use Rattle.promises.specs.Promises.{StartPromise, FeedPromise, LoadPromise, Reads}
+use Rattle.promises.specs.Lent.{startedAs, fedAs, loadedAs}
+use Rattle.promises.specs.Runs.{Made, started, fed, loaded, asked, callOf, replyOf, Meets, leaves}
 use Rattle.drive.specs.Script.{Buffers, buffers, callOn, sourceOf, ofLists, ofBytes, listFrom, sizesFor, callCount, fits, fitsIn, parts, callFor}
 use Rattle.drive.specs.declared.lending.Sizes.{Sizes}
 use Rattle.drive.specs.Drives.{encoded, answersOf, entriesOf, bytesOf}
@@ -43,14 +43,14 @@ pub record Lent (q : Request) (list output : List ℕ) : Type 0 where
   pub entries : length list ≡ sizesFor (q .op) (q .m) .entries
   pub bytes : length output ≡ sizesFor (q .op) (q .m) .output
 
--- the call of a request on what it is lent; list and output are as at entry, then as at exit. None reads input yet
-abbrev pub Answers : Draft → Request → (list output : List ℕ) → Told → Draft → (list' output' : List ℕ) → Type 0
-Answers d q list output told e list' output' =
-    (input : List ℕ) → Makes d (callOn (q .op) (q .b) (q .x) (buffers list output input)) told e list' output'
+-- the call of a request on what it is lent; list' and output' are as at exit
+abbrev pub Answers : Draft → Request → (part : Buffers) → Told → Draft → (list' output' : List ℕ) → Type 0
+Answers d q part told e list' output' = Makes d (callOn (q .op) (q .b) (q .x) part) told e list' output'
 
-pub none-left : (list : List ℕ) → length list ≡ 0 → list ≡ []
-none-left [] e = refl
-none-left (x ∷ list) e = absurd (omega arith)
+-- that of a query, which is lent neither codes nor input: whatever they are
+abbrev pub Queried : (state : (codes : List ℕ) → Draft) → Request → (list output : List ℕ) → Told → (list' output' : List ℕ) → Type 0
+Queried state q list output told list' output' =
+    (codes input : List ℕ) → Answers (state codes) q (buffers list output input) told (state codes) list' output'
 
 -- Each kind of call
 
@@ -71,6 +71,12 @@ pub feed-makes : {d e : Draft} {pick : ℕ} {before after : List ℕ} {answer : 
 unfolding Meets callOf leaves replyOf sourceOf
 feed-makes {d} {e} {pick} {before} {after} {answer} p s o =
     record { made = fed pick before (fedAs answer e) after; meets = p; call = refl; left = refl; says = s; entries = refl; bytes = o }
+
+pub load-makes : {d e : Draft} {lifts : List ℕ} {answer : LoadAnswer} {told : Told} {list output : List ℕ} → LoadPromise d lifts (loadedAs answer e)
+    → numbersOf told ≡ encoded (loadSays answer) → list ≡ [] → output ≡ [] → Makes d (load lifts) told e list output
+unfolding Meets callOf leaves replyOf sourceOf
+load-makes {d} {e} {lifts} {answer} p s l o =
+    record { made = loaded lifts (loadedAs answer e); meets = p; call = refl; left = refl; says = s; entries = l; bytes = o }
 
 -- What fits
 
@@ -139,10 +145,9 @@ tries-none q left z is f = rw (called-on q left z is, f) (stays (record { ends =
 
 pub tries-one : {d e : Draft} (q : Request) (left : Buffers) (told : Told) (numbers : Numbers) {list output : List ℕ} (z : Sizes)
     → z ≡ sizesFor (q .op) (q .m) → fitsIn (q .op) z left ≡ true → length list ≡ z .entries → length output ≡ z .output
-    → Answers d q (parts z left .lists) (parts z left .bytes) told e list output
+    → Answers d q (parts z left) told e list output
     → Tries d z left (triedAs told numbers z) e (list ++ drop (z .entries) (left .lists)) (output ++ drop (z .output) (left .bytes)) (requested q left)
-tries-one q left told numbers z is f l o m =
-    let a = m (parts z left .input) in
+tries-one q left told numbers z is f l o a =
     let g = fits-true (q .op) z left f in
     rw (called-on q left z is, f) (takes (record {
       one = refl;

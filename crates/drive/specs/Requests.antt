@@ -87,6 +87,10 @@ pub source-at : (op : ℕ) → getD sources op 0 ≡ sourceAt op
 unfolding sources sourceAt callOn sourceOf
 source-at op = source-of (numbered 0 0 (buffers [] [] [])) op
 
+-- not the one above k, so at most k
+pub below : {k op : ℕ} → op ≤ suc k → (op ≡ suc k → ⊥) → op ≤ k
+below {k} {op} h f = elim (decLt k op) [ yes l ↦ absurd (f (omega arith)) | no l ↦ omega arith ]
+
 -- not k, so above it
 pub above : {k op : ℕ} → k ≤ op → (op ≡ k → ⊥) → suc k ≤ op
 above {k} {op} h f = elim (decLt k op) [ yes l ↦ omega arith | no l ↦ absurd (f (omega arith)) ]

@@ -7,7 +7,7 @@ use Prim.Native.Nat.{ℕ, zero, suc, _+_, _*_}
 use lib.Dec.{eqb, leb, ltb}
 use lib.ListN.{length, getD, take, drop}
 use Rattle.drive.specs.declared.lending.Sizes.{Sizes}
-use Rattle.promises.specs.Book.{Call, start, feed, ask, split, longest, mask, radius, next, fold}
+use Rattle.promises.specs.Book.{Call, start, feed, load, ask, split, longest, mask, radius, next, fold, lift}
 
 -- What is lent beside the state: entries of lists, bytes of outputs, and bytes that calls only read; what is left of each
 pub record Buffers : Type 0 where
@@ -18,7 +18,7 @@ pub record Buffers : Type 0 where
 abbrev pub buffers : (lists bytes input : List ℕ) → Buffers
 buffers lists bytes input = record { lists = lists; bytes = bytes; input = input }
 
--- The calls by their numbers, each on what it is lent. No call reads input yet
+-- The calls by their numbers, each on what it is lent
 unfoldable pub numbered : (b x : ℕ) → Buffers → List Call
 numbered b x part =
     start b
@@ -29,11 +29,13 @@ numbered b x part =
     ∷ ask (radius x)
     ∷ ask (next x)
     ∷ ask (fold x b (part .bytes))
+    ∷ ask (lift b)
+    ∷ load (part .input)
     ∷ []
 
 -- how many they are
 abbrev pub callCount : ℕ
-callCount = 8
+callCount = 10
 
 pub counted : (b x : ℕ) (part : Buffers) → length (numbered b x part) ≡ callCount
 unfolding numbered
@@ -61,12 +63,14 @@ ofInput = 3
 unfoldable pub sourceOf : Call → ℕ
 sourceOf (start K) = nothing
 sourceOf (feed pick visits) = ofLists
+sourceOf (load lifts) = ofInput
 sourceOf (ask (split i k ends)) = ofLists
 sourceOf (ask longest) = nothing
 sourceOf (ask (mask i)) = nothing
 sourceOf (ask (radius c)) = nothing
 sourceOf (ask (next c)) = nothing
 sourceOf (ask (fold i k output)) = ofBytes
+sourceOf (ask (lift letter)) = nothing
 
 -- the list of a call that is lent it from there; [] of any other
 abbrev pub listFrom : (source : ℕ) → Call → (list : List ℕ) → List ℕ

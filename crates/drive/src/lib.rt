@@ -1,4 +1,4 @@
-// The calls for a host: a script of calls on a state in lent arrays, a section shown, a lift, a record read back.
+// The calls for a host: a script of calls on a state in lent arrays, a section shown, a record read back.
 // No proof binds a host, so these functions take any contents.
 ghost use mathlib.Core.Path.{_≡_};
 ghost use mathlib.Core.Bool.{true};
@@ -8,11 +8,11 @@ ghost use lib.ListN.{length, take};
 ghost use lib.Seq.{sets};
 ghost use Rattle.promises.specs.Refusals.{showRefusal};
 ghost use Rattle.layout.specs.Yield.{yieldAt};
-ghost use Rattle.promises.specs.Replies.{shown, liftReply, unfoldReply};
-ghost use Rattle.drive.specs.Script.{buffers, nextSizes};
+ghost use Rattle.promises.specs.Replies.{shown, unfoldReply};
+ghost use Rattle.drive.specs.Script.{buffers};
 ghost use Rattle.drive.specs.Told.{numbersOf, foundNumbers};
 ghost use Rattle.drive.specs.Drives.{heldIn, stateOf, encoded, Drives};
-ghost use Rattle.drive.specs.Advancing.{cursor, scriptAt, calledAt, Room, Settles, Advances};
+ghost use Rattle.drive.specs.Advancing.{cursor, Room, Settles, AdvancesAt};
 
 mod lending;
 mod make;
@@ -25,11 +25,11 @@ use crate::request::ANSWER_SIZE;
 use crate::request::request_at;
 use crate::told::Told;
 use crate::told::found_told;
-use crate::told::lift_told;
 use crate::told::unfold_told;
 use cells::Centre;
 use cells::Centres;
 use cells::Letters;
+use cells::Lifts;
 use cells::Numbers;
 use cells::Places;
 use text::bytes::write_bytes;
@@ -115,6 +115,8 @@ fn settle(numbers: &mut [usize; 3], answers: &mut [usize], at: Cursor, t: Tried)
 // The next call of the script, if there is one.
 fn advance(
     letters: &mut Letters,
+    codes: &mut Letters,
+    lifts: &mut Lifts,
     centres: &mut Centres,
     places: &mut Places,
     numbers: &mut [usize; 3],
@@ -126,10 +128,11 @@ fn advance(
     at: Cursor,
 ) -> Cursor
     requires { ⌜ (at .listed ≤ length (now lists)) × (at .written ≤ length (now bytes)) × (at .read ≤ length (now input)) ⌝ }
-    ensures { λ r. ⌜ Advances (stateOf (now (numbers .entry)) (now (letters .entry)) (now (centres .entry)) (now (places .entry)))
-        (nextSizes (scriptAt (now (script .entry)) at)) (buffers (now (lists .entry)) (now (bytes .entry)) (now (input .entry))) (now (answers .entry)) at r
-        (stateOf (now (numbers .exit)) (now (letters .exit)) (now (centres .exit)) (now (places .exit))) (now (lists .exit)) (now (bytes .exit)) (now (answers .exit))
-        (calledAt (now (script .entry)) (buffers (now (lists .entry)) (now (bytes .entry)) (now (input .entry))) (now (answers .entry)) at) ⌝ }
+    ensures { λ r. ⌜ AdvancesAt
+        (stateOf (now (numbers .entry)) (now (letters .entry)) (now (codes .entry)) (now (lifts .entry)) (now (centres .entry)) (now (places .entry)))
+        (now (script .entry)) (buffers (now (lists .entry)) (now (bytes .entry)) (now (input .entry))) (now (answers .entry)) at r
+        (stateOf (now (numbers .exit)) (now (letters .exit)) (now (codes .exit)) (now (lifts .exit)) (now (centres .exit)) (now (places .exit)))
+        (now (lists .exit)) (now (bytes .exit)) (now (answers .exit)) ⌝ }
 {
     let q = request_at(script, answers.len(), at.made);
     let held = held_in(numbers);
@@ -138,6 +141,8 @@ fn advance(
     let written = at.written;
     let t = make(
         letters,
+        codes,
+        lifts,
         centres,
         places,
         &input[read..],
@@ -153,6 +158,8 @@ fn advance(
 #[no_mangle]
 pub extern "C" fn drive(
     letters: &mut Letters,
+    codes: &mut Letters,
+    lifts: &mut Lifts,
     centres: &mut Centres,
     places: &mut Places,
     numbers: &mut [usize; 3],
@@ -162,14 +169,18 @@ pub extern "C" fn drive(
     bytes: &mut [u8],
     answers: &mut [usize],
 ) -> usize
-    ensures { λ r. ⌜ Drives (stateOf (now (numbers .entry)) (now (letters .entry)) (now (centres .entry)) (now (places .entry)))
-        (now (script .entry)) (buffers (now (lists .entry)) (now (bytes .entry)) (now (input .entry))) (now (answers .entry))
-        r (stateOf (now (numbers .exit)) (now (letters .exit)) (now (centres .exit)) (now (places .exit))) (now (lists .exit)) (now (bytes .exit)) (now (answers .exit)) ⌝ }
+    ensures { λ r. ⌜ Drives
+        (stateOf (now (numbers .entry)) (now (letters .entry)) (now (codes .entry)) (now (lifts .entry)) (now (centres .entry)) (now (places .entry)))
+        (now (script .entry)) (buffers (now (lists .entry)) (now (bytes .entry)) (now (input .entry))) (now (answers .entry)) r
+        (stateOf (now (numbers .exit)) (now (letters .exit)) (now (codes .exit)) (now (lifts .exit)) (now (centres .exit)) (now (places .exit)))
+        (now (lists .exit)) (now (bytes .exit)) (now (answers .exit)) ⌝ }
 {
     let mut at = outset();
     while at.on {
         at = advance(
             letters,
+            codes,
+            lifts,
             centres,
             places,
             numbers,
@@ -202,17 +213,6 @@ pub extern "C" fn drive_show(
     let section = calls::show::show(letters, ends, s);
     *answer = [wide(number), section.len()];
     write_bytes(section, part, 0);
-    0
-}
-
-// The lift of a letter: the answer is 0 and the lift, or 1 and the number of the refusal.
-#[no_mangle]
-pub extern "C" fn drive_lift(letter: u8, answer: &mut [usize; 2]) -> usize
-    ensures { λ r. ⌜ r ≡ 0 ⌝ }
-    ensures answer { λ r. ⌜ now (answer .exit) ≡ take 2 (encoded (liftReply letter .said)) ⌝ }
-{
-    let told = lift_told(calls::lift::lift(letter));
-    *answer = [told.kind, told.first];
     0
 }
 

@@ -2,13 +2,13 @@
 ghost use mathlib.Core.Path.{_≡_};
 ghost use Prim.Native.Nat.{_≤_};
 ghost use Rattle.cells.specs.Lanes.{byCentre, byPlace};
-ghost use Rattle.promises.specs.Answers.{startSays, feedSays};
+ghost use Rattle.promises.specs.Answers.{startSays, feedSays, loadSays};
 ghost use Rattle.promises.specs.State.{draftIn};
 ghost use Rattle.drive.specs.Script.{buffers, sourceAt, sizesFor};
 ghost use Rattle.drive.specs.Drives.{encoded};
 ghost use Rattle.drive.specs.Told.{numbersOf};
 ghost use Rattle.drive.specs.Requests.{requested};
-ghost use Rattle.drive.specs.Calling.{Lent, Answers, Tries, triedAs, noneTried};
+ghost use Rattle.drive.specs.Calling.{Lent, Answers, Queried, Tries, triedAs, noneTried};
 use crate::lending::Sizes;
 use crate::lending::fits;
 use crate::lending::sizes_of;
@@ -16,6 +16,8 @@ use crate::request::Request;
 use crate::told::Told;
 use crate::told::centre_told;
 use crate::told::feed_told;
+use crate::told::lift_told;
+use crate::told::load_told;
 use crate::told::mask_told;
 use crate::told::next_told;
 use crate::told::radius_told;
@@ -27,18 +29,20 @@ use calls::start::Begin;
 use cells::Centre;
 use cells::Centres;
 use cells::Letters;
+use cells::Lifts;
 use cells::NEXT;
 use cells::Numbers;
 use cells::Place;
 use cells::Places;
 use cells::RADIUS;
 use cells::ROWS;
+use promises::LoadAnswer;
 
 // How many calls there are: the number of none.
-pub const CALLS: u8 = 8;
+pub const CALLS: u8 = 10;
 
 // What each call is lent its list of: nothing, entries of lists, bytes of outputs, or bytes that it only reads.
-const SOURCES: [u8; CALLS as usize] = [0, 1, 1, 0, 0, 0, 0, 2];
+const SOURCES: [u8; CALLS as usize] = [0, 1, 1, 0, 0, 0, 0, 2, 0, 3];
 
 fn source_at(op: u8) -> u8
     ensures { λ r. ⌜ r ≡ sourceAt op ⌝ }
@@ -80,9 +84,20 @@ fn fed(r: Step) -> Called
     }
 }
 
-// The answer to a request from number 2 on; list and output are what it is lent.
+// What came of a load, on a state of these numbers.
+fn loaded(answer: LoadAnswer, held: Numbers) -> Called
+    ensures { λ c. ⌜ (numbersOf (c .told) ≡ encoded (loadSays answer)) × (c .numbers ≡ held) ⌝ }
+{
+    Called {
+        told: load_told(answer),
+        numbers: held,
+    }
+}
+
+// The answer to a request of number 2 to 8; list and output are what it is lent.
 fn ask(
     letters: &Letters,
+    lifts: &Lifts,
     centres: &Centres,
     places: &Places,
     list: &mut [u16],
@@ -90,56 +105,59 @@ fn ask(
     held: Numbers,
     q: Request,
 ) -> Told
-    requires { ⌜ (2 ≤ q .op) × Lent q (now list) (now output) ⌝ }
-    ensures { λ t. ⌜ Answers (draftIn held (now (letters .entry)) (byCentre (now (centres .entry))) (byPlace (now (places .entry)))) q (now (list .entry)) (now (output .entry))
-        t (draftIn held (now (letters .entry)) (byCentre (now (centres .entry))) (byPlace (now (places .entry)))) (now (list .exit)) (now (output .exit)) ⌝ }
+    requires { ⌜ (2 ≤ q .op) × (q .op ≤ 8) × Lent q (now list) (now output) ⌝ }
+    ensures { λ t. ⌜ Queried
+        (λ codes. draftIn held (now (letters .entry)) codes (now (lifts .entry)) (byCentre (now (centres .entry))) (byPlace (now (places .entry))))
+        q (now (list .entry)) (now (output .entry)) t (now (list .exit)) (now (output .exit)) ⌝ }
 {
     let op = q.op;
+    let i = Place(q.x);
     match op {
-        2 => split_told(calls::split::split(
-            &places[ROWS],
-            &centres[RADIUS],
-            held,
-            Place(q.x),
-            q.b,
-            list,
-        )),
+        2 => split_told(calls::split::split(&places[ROWS], &centres[RADIUS], held, i, q.b, list)),
         3 => centre_told(calls::longest::longest(held)),
-        4 => mask_told(calls::mask::mask(&places[ROWS], held, Place(q.x))),
+        4 => mask_told(calls::mask::mask(&places[ROWS], held, i)),
         5 => radius_told(calls::radius::radius(&centres[RADIUS], held, Centre(q.x))),
         6 => next_told(calls::next::next(&centres[RADIUS], &centres[NEXT], held, Centre(q.x))),
-        _ => record_told(calls::fold::fold(
+        7 => record_told(calls::fold::fold(
             letters,
             &places[ROWS],
             &centres[RADIUS],
             held,
-            Place(q.x),
+            i,
             q.b,
             output,
         )),
+        _ => lift_told(calls::lift::lift(lifts, held, q.b)),
     }
 }
 
-// The call of a request; list and output are what it is lent.
+// The call of a request; input, list and output are what it is lent.
 fn call(
     letters: &mut Letters,
+    codes: &mut Letters,
+    lifts: &mut Lifts,
     centres: &mut Centres,
     places: &mut Places,
+    input: &[u8],
     list: &mut [u16],
     output: &mut [u8],
     held: Numbers,
     q: Request,
 ) -> Called
     requires { ⌜ Lent q (now list) (now output) ⌝ }
-    ensures { λ c. ⌜ Answers (draftIn held (now (letters .entry)) (byCentre (now (centres .entry))) (byPlace (now (places .entry)))) q (now (list .entry)) (now (output .entry))
-        (c .told) (draftIn (c .numbers) (now (letters .exit)) (byCentre (now (centres .exit))) (byPlace (now (places .exit)))) (now (list .exit)) (now (output .exit)) ⌝ }
+    ensures { λ c. ⌜ Answers
+        (draftIn held (now (letters .entry)) (now (codes .entry)) (now (lifts .entry)) (byCentre (now (centres .entry))) (byPlace (now (places .entry))))
+        q (buffers (now (list .entry)) (now (output .entry)) (now (input .entry))) (c .told)
+        (draftIn (c .numbers) (now (letters .exit)) (now (codes .exit)) (now (lifts .exit)) (byCentre (now (centres .exit))) (byPlace (now (places .exit))))
+        (now (list .exit)) (now (output .exit)) ⌝ }
 {
     let op = q.op;
     match op {
-        0 => begun(calls::start::start(letters, centres, places, held, q.b)),
-        1 => fed(calls::feed::feed(letters, centres, places, list, held, q.b)),
+        0 => begun(calls::start::start(letters, codes, lifts, centres, places, held, q.b)),
+        1 => fed(calls::feed::feed(letters, codes, lifts, centres, places, list, held, q.b)),
+        9 => loaded(calls::load::load(lifts, held, input), held),
         _ => {
-            let told = ask(letters, centres, places, list, output, held, q);
+            let told = ask(letters, lifts, centres, places, list, output, held, q);
             Called {
                 told,
                 numbers: held,
@@ -195,6 +213,8 @@ fn none(held: Numbers) -> Tried
 // The call of a request, where it fits; input, lists and bytes are what is left to lend.
 pub fn make(
     letters: &mut Letters,
+    codes: &mut Letters,
+    lifts: &mut Lifts,
     centres: &mut Centres,
     places: &mut Places,
     input: &[u8],
@@ -203,19 +223,25 @@ pub fn make(
     held: Numbers,
     q: Request,
 ) -> Tried
-    ensures { λ t. ⌜ Tries (draftIn held (now (letters .entry)) (byCentre (now (centres .entry))) (byPlace (now (places .entry))))
+    ensures { λ t. ⌜ Tries
+        (draftIn held (now (letters .entry)) (now (codes .entry)) (now (lifts .entry)) (byCentre (now (centres .entry))) (byPlace (now (places .entry))))
         (sizesFor (q .op) (q .m)) (buffers (now (lists .entry)) (now (bytes .entry)) (now (input .entry))) t
-        (draftIn (t .numbers) (now (letters .exit)) (byCentre (now (centres .exit))) (byPlace (now (places .exit)))) (now (lists .exit)) (now (bytes .exit))
+        (draftIn (t .numbers) (now (letters .exit)) (now (codes .exit)) (now (lifts .exit)) (byCentre (now (centres .exit))) (byPlace (now (places .exit))))
+        (now (lists .exit)) (now (bytes .exit))
         (requested q (buffers (now (lists .entry)) (now (bytes .entry)) (now (input .entry)))) ⌝ }
 {
     let z = sizes_of(source_at(q.op), q.m);
     if fits(q.op, z, lists.len(), bytes.len(), input.len()) {
         let entries = z.entries;
         let output = z.output;
+        let read = z.input;
         let c = call(
             letters,
+            codes,
+            lifts,
             centres,
             places,
+            &input[..read],
             &mut lists[..entries],
             &mut bytes[..output],
             held,

@@ -1,6 +1,6 @@
 // An answer in four numbers.
 ghost use mathlib.Core.Path.{_≡_};
-ghost use Rattle.promises.specs.Answers.{startSays, feedSays, maskSays, radiusSays, centreSays, nextSays, splitSays, recordSays, liftSays, unfoldSays};
+ghost use Rattle.promises.specs.Answers.{startSays, feedSays, loadSays, maskSays, radiusSays, centreSays, nextSays, splitSays, recordSays, liftSays, unfoldSays};
 ghost use Rattle.drive.specs.Drives.{encoded};
 ghost use Rattle.drive.specs.Told.{numbersOf, toldGiven, toldRefused, toldRefusedAt, turnNumbers, yieldedNumbers, foundNumbers};
 use layout::Found;
@@ -9,6 +9,7 @@ use layout::Yielded;
 use promises::CentreAnswer;
 use promises::FeedAnswer;
 use promises::LiftAnswer;
+use promises::LoadAnswer;
 use promises::MaskAnswer;
 use promises::NextAnswer;
 use promises::RadiusAnswer;
@@ -147,6 +148,16 @@ fn refused_at(number: u8, place: usize) -> Told
         first: number as usize,
         second: place,
         third: 0,
+    }
+}
+
+pub fn load_told(a: LoadAnswer) -> Told
+    ensures { λ r. ⌜ numbersOf r ≡ encoded (loadSays a) ⌝ }
+{
+    match a {
+        LoadAnswer::InForce => given(0, 0),
+        LoadAnswer::Refused(number) => refused(number),
+        LoadAnswer::RefusedAt(number, place) => refused_at(number, place),
     }
 }
 

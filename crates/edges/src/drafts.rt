@@ -5,6 +5,7 @@ use crate::print::front;
 use crate::print::number;
 use crate::print::refusal;
 use crate::print::text;
+use cells::ALPHABET;
 use cells::Centre;
 use cells::PICKS;
 use cells::Place;
@@ -25,6 +26,8 @@ pub fn stored() -> Draft {
         k: 264,
         longest: Centre(9),
         letters: [90u8; PICKS],
+        codes: [7u8; PICKS],
+        lifts: [7u8; ALPHABET],
         radius: [7u16; 2 * PICKS + 2],
         heads: [7u16; PICKS + 1],
         lends: [7u16; 2 * PICKS + 2],
@@ -56,7 +59,7 @@ pub fn say_fed(answer: FeedAnswer, visits: &[u16]) {
 }
 
 // Feeds one pick, and prints the picks so far and the answer.
-fn one_more(draft: Draft, picks: &[u8], pick: u8) -> Draft {
+pub fn one_more(draft: Draft, picks: &[u8], pick: u8) -> Draft {
     let mut visits = [0u16; VISITS];
     let r = board::feed(draft, pick, &mut visits);
     text(picks);

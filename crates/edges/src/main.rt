@@ -1,9 +1,12 @@
-// Document 01's drafts at the edges, run through the calls with the state by value. What it prints is held to the file stdout.
+// Document 01's drafts at the edges, and a loaded table, run through the calls with the state by value. What it prints is held to
+// the file stdout.
 mod drafts;
+mod lifts;
 mod limits;
 mod print;
 
 fn main() {
     drafts::run();
     limits::run();
+    lifts::run();
 }

@@ -29,7 +29,7 @@ fold-mirror u h r p e l =
     ∙ drop-at (reverse (drop r u)) (reverse (take r u)) h (length-reverse (drop r u) ∙ length-drop r u ∙ omega arith) in
     ap (λ t. take h u ++ t) (sym back) ∙ take-append-drop h u
 
-every-stretch : (w : ℕ → ℕ) (a len : ℕ) → ((j : ℕ) → a ≤ j → j < a + len → Letter (w j)) → Every Letter (stretch w a len)
+pub every-stretch : (w : ℕ → ℕ) (a len : ℕ) → ((j : ℕ) → a ≤ j → j < a + len → Letter (w j)) → Every Letter (stretch w a len)
 every-stretch w a zero f = every-none
 every-stretch w a (suc len) f =
     every-more (f a (omega arith) (omega arith)) (every-stretch w (suc a) len (λ j l m. f j (omega arith) (omega arith)))
@@ -37,17 +37,17 @@ every-stretch w a (suc len) f =
 abbrev folded : (ℕ → ℕ) → (a e : ℕ) → Folded
 folded w a e = record { len = e - a; half = stretch w a ((e - a + 1) / 2) }
 
-module _ (w : ℕ → ℕ) (a e : ℕ) (s : Section w a e) where
-  folded-fits : e ≤ mostPicks → ((j : ℕ) → j < e → Letter (w j)) → Fits (folded w a e)
-  folded-fits b f = record {
-    ranged = record { low = omega (arith, s .some); high = omega arith };
+module _ (w : ℕ → ℕ) (a e : ℕ) where
+  folded-fits : a < e → e ≤ mostPicks → ((j : ℕ) → j < e → Letter (w j)) → Fits (folded w a e)
+  folded-fits l b f = record {
+    ranged = record { low = omega arith; high = omega arith };
     halved = stretch-length w a ((e - a + 1) / 2);
-    lettered = every-stretch w a ((e - a + 1) / 2) (λ j l m. f j (omega (arith, s .some)));
+    lettered = every-stretch w a ((e - a + 1) / 2) (λ j x y. f j (omega arith));
   }
 
-  folded-back : unfolded (folded w a e) ≡ stretch w a (e - a)
+  folded-back : Section w a e → unfolded (folded w a e) ≡ stretch w a (e - a)
   unfolding unfolded
-  folded-back =
+  folded-back s =
       let len = e - a in
       let h = (len + 1) / 2 in
       let half : stretch w a h ≡ take h (stretch w a len) = sym (stretch-take w a h len (omega (arith, s .some))) in
@@ -56,52 +56,56 @@ module _ (w : ℕ → ℕ) (a e : ℕ) (s : Section w a e) where
       ap₂ (λ x y. x ++ reverse y) half short
       ∙ fold-mirror (stretch w a len) h (len / 2) (s .mirrored) (rw (stretch-length w a len) (omega arith)) (omega arith)
 
--- All of them
+-- All of them: w are the letters, x is what the sections are of
 
 record Written (w : ℕ → ℕ) (n a : ℕ) (ends : List ℕ) : Type 0 where
   low : a ≤ n
   fitting : Every Fits (foldedOf w a ends)
   adds : a + total (foldedOf w a ends) ≡ n
-  back : picksOf (foldedOf w a ends) ≡ stretch w a (n - a)
 
-written : {w : ℕ → ℕ} {n a : ℕ} {ends : List ℕ} → n ≤ mostPicks → ((j : ℕ) → j < n → Letter (w j)) → Sections w n a ends
+written : {w x : ℕ → ℕ} {n a : ℕ} {ends : List ℕ} → n ≤ mostPicks → ((j : ℕ) → j < n → Letter (w j)) → Sections x n a ends
     → Written w n a ends
-unfolding picksOf
-written {w} {n} b f done =
-    let z : n - n ≡ 0 = omega arith in
-    record { low = omega arith; fitting = every-none; adds = omega arith; back = rw z refl }
-written {w} {n} b f (next {a = a} {e = e} {ends = ends} s rest) =
-    let r = written b f rest in
-    let top : e ≤ n = r .low in
-    let x : a + (e - a) ≡ e = omega (arith, s .some) in
-    let y : e - a + (n - e) ≡ n - a = omega (arith, s .some) in
+written b f done = record { low = omega arith; fitting = every-none; adds = omega arith }
+written {w} b f (next {a = a} {e = e} s rest) =
+    let r = written {w = w} b f rest in
+    let top : e ≤ _ = r .low in
     record {
       low = omega (arith, s .some);
-      fitting = every-more (folded-fits w a e s (omega arith) (λ j l. f j (omega arith))) (r .fitting);
+      fitting = every-more (folded-fits w a e (s .some) (omega arith) (λ j l. f j (omega arith))) (r .fitting);
       adds = omega (arith, r .adds, s .some);
-      back =
-          ap₂ _++_ (folded-back w a e s) (r .back)
-          ∙ ap (λ k. stretch w a (e - a) ++ stretch w k (n - e)) (sym x)
-          ∙ sym (stretch-join w a (e - a) (n - e))
-          ∙ ap (stretch w a) y;
     }
 
--- The law of a record written
-
-pub written-law : {w : ℕ → ℕ} {i k : ℕ} {ends : List ℕ} → From 1 mostPicks i → From 1 mostSections k → ((j : ℕ) → j < i → Letter (w j))
-    → Split w i k ends
-    → Passes (recordOf w i ends) i (foldedOf w 0 ends) × (picksOf (foldedOf w 0 ends) ≡ prefix w i)
-unfolding recordOf
-written-law {w} {i} {k} {ends} l m f s =
-    let r = written (l .high) f (s .is) in
-    let c : length (foldedOf w 0 ends) ≡ k = folded-count w 0 ends ∙ s .count in
-    let z : i - 0 ≡ i = omega arith in (
-      record {
-        laid = record { ranged = l; counted = rw c m; fitting = r .fitting; written = refl };
-        adds = omega (arith, r .adds);
-      },
-      r .back ∙ ap (stretch w 0) z,
+back : {w : ℕ → ℕ} {n a : ℕ} {ends : List ℕ} → Sections w n a ends → (a ≤ n) × (picksOf (foldedOf w a ends) ≡ stretch w a (n - a))
+unfolding picksOf
+back {n = n} done = let z : n - n ≡ 0 = omega arith in (omega arith, rw z refl)
+back {w} {n} (next {a = a} {e = e} s rest) =
+    let r = back rest in
+    let x : a + (e - a) ≡ e = omega (arith, s .some) in
+    let y : e - a + (n - e) ≡ n - a = omega (arith, s .some, r .0) in (
+      omega (arith, s .some, r .0),
+      ap₂ _++_ (folded-back w a e s) (r .1)
+          ∙ ap (λ k. stretch w a (e - a) ++ stretch w k (n - e)) (sym x)
+          ∙ sym (stretch-join w a (e - a) (n - e))
+          ∙ ap (stretch w a) y,
     )
+
+-- The laws of a record written
+
+-- it passes, whatever the split is of
+pub written-law : {w x : ℕ → ℕ} {i k : ℕ} {ends : List ℕ} → From 1 mostPicks i → From 1 mostSections k → ((j : ℕ) → j < i → Letter (w j))
+    → Split x i k ends → Passes (recordOf w i ends) i (foldedOf w 0 ends)
+unfolding recordOf
+written-law {w} {x} {i} {k} {ends} l m f s =
+    let r = written {w = w} (l .high) f (s .is) in
+    let c : length (foldedOf w 0 ends) ≡ k = folded-count w 0 ends ∙ s .count in
+    record {
+      laid = record { ranged = l; counted = rw c m; fitting = r .fitting; written = refl };
+      adds = omega (arith, r .adds);
+    }
+
+-- where the split is of the letters, they come back
+pub back-law : {w : ℕ → ℕ} {i k : ℕ} {ends : List ℕ} → Split w i k ends → picksOf (foldedOf w 0 ends) ≡ prefix w i
+back-law {w} {i} s = let z : i - 0 ≡ i = omega arith in back (s .is) .1 ∙ ap (stretch w 0) z
 
 -- The records that pass are those written
 
@@ -136,6 +140,6 @@ passing-law bytes = (
         written = rw (u .many) (sym (u .refolds));
       },
   λ d.
-      let r = written-law (d .picks) (d .sections) (every-at (d .lettered)) (d .split) in
-      record { picks = length (d .draft); sections = foldedOf (word (d .draft)) 0 (d .ends); passes = rw (d .written) (r .0) },
+      let r = written-law {w = word (d .draft)} (d .picks) (d .sections) (every-at (d .lettered)) (d .split) in
+      record { picks = length (d .draft); sections = foldedOf (word (d .draft)) 0 (d .ends); passes = rw (d .written) r },
 )

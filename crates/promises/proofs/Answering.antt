@@ -1,20 +1,21 @@
 -- The replies that the book gives are those of document 01: each call is refused under the first line that it meets, or says what it should.
-use mathlib.Core.Path.{_≡_, refl, sym, ap, _∙_}
+use mathlib.Core.Path.{_≡_, refl, sym, ap, subst, _∙_}
 use mathlib.Core.Logic.{_↔_, _≢_, inl, inr}
 use mathlib.Core.List.{List, [], _∷_}
 use Prim.Native.Nat.{ℕ}
 use native.Mathlib.Omega.{arith}
 use lib.ListN.{length}
-use Rattle.promises.specs.Answers.{refused, Reply}
-use Rattle.promises.specs.Book.{Book, Call, ask, lent, split, next, fold}
-use Rattle.promises.specs.Replies.{unless, foundFor, replyTo}
+use Rattle.promises.specs.Answers.{refused, refusedAt, Under, Reply}
+use Rattle.promises.specs.Book.{Book, Query, Call, ask, lent, lifted, split, next, fold}
+use Rattle.promises.specs.Replies.{unless, placed, foundFor, replyTo}
 use Rattle.promises.specs.Listed.{Line, First, NoneMet, recordLonger, noSplit, noEnding, listed, sought, lines}
 use Rattle.promises.specs.Says.{Says}
-use Rattle.promises.specs.BookLaws.{unless-zero, unless-not}
-use Rattle.promises.specs.Demands.{Accepted, NoneListed, Late, Answered}
+use Rattle.promises.specs.BookLaws.{unless-zero, unless-not, placed-under, placed-list}
+use Rattle.promises.specs.Demands.{Accepted, NoneListed, PlaceOf, Late, Answered}
 use Rattle.promises.proofs.Listing.{Tested, hit, clear, first-one, first-none, first-front, first-behind, none-both, Others, first-past}
 use Rattle.promises.proofs.Finding.{Outcome, under, fine}
 use Rattle.promises.proofs.Calls.{listed-tested, found-outcome}
+use Rattle.promises.proofs.Placing.{under-one, placed-at, zero-met, found-plain}
 
 -- 9, 10 and 5 each by itself, from the first line that is met
 
@@ -36,45 +37,45 @@ second-of-two l m f (inl p) = absurd (f (p .1))
 second-of-two l m f (inr p) = alone m (m .number) (p .1)
 
 module _ (b : Book) (r : Reply) where
-  -- r refuses by the first line that is met
+  -- r refuses by the first line that is met, and names no place
   abbrev ByFirst : Call → Type 0
   ByFirst call = (x : ℕ) → (r .said ≡ refused x) ↔ First (lines b call) x
 
-  -- behind the lines that need no letters
+  -- behind the lines that need no picks
   behind : (call : Call) → ByFirst call → (x : ℕ) → Others (listed (length (b .row)) (b .K) call) x
-      → (r .said ≡ refused x) ↔ (NoneListed b call × First (sought (b .row) call) x)
+      → (r .said ≡ refused x) ↔ (NoneListed b call × First (sought (b .row) (lifted b) call) x)
   behind call f x o = (
-    λ e. first-past (listed (length (b .row)) (b .K) call) (sought (b .row) call) x o (f x .0 e),
-    λ p. f x .1 (first-behind (listed (length (b .row)) (b .K) call) (sought (b .row) call) x (p .0) (p .1)),
+    λ e. first-past (listed (length (b .row)) (b .K) call) (sought (b .row) (lifted b) call) x o (f x .0 e),
+    λ p. f x .1 (first-behind (listed (length (b .row)) (b .K) call) (sought (b .row) (lifted b) call) x (p .0) (p .1)),
   )
 
   split-late : (i k : ℕ) (ends : List ℕ) → ByFirst (ask (split i k ends))
-      → (r .said ≡ refused 9) ↔ (NoneListed b (ask (split i k ends)) × noSplit (b .row) i k .Met)
+      → (r .said ≡ refused 9) ↔ (NoneListed b (ask (split i k ends)) × noSplit (lifted b) i k .Met)
   unfolding Others First listed sought
   split-late i k ends f =
       let q = behind (ask (split i k ends)) f 9 (λ e. omega arith, (λ e. omega arith, (λ e. omega arith, (λ e. omega arith, tt)))) in
-      (λ e. (q .0 e .0, alone (noSplit (b .row) i k) 9 (q .0 e .1)), λ p. q .1 (p .0, inl (p .1, refl)))
+      (λ e. (q .0 e .0, alone (noSplit (lifted b) i k) 9 (q .0 e .1)), λ p. q .1 (p .0, inl (p .1, refl)))
 
-  next-late : (c : ℕ) → ByFirst (ask (next c)) → (r .said ≡ refused 10) ↔ (NoneListed b (ask (next c)) × noEnding (b .row) c .Met)
+  next-late : (c : ℕ) → ByFirst (ask (next c)) → (r .said ≡ refused 10) ↔ (NoneListed b (ask (next c)) × noEnding (lifted b) c .Met)
   unfolding Others First listed sought
   next-late c f =
       let q = behind (ask (next c)) f 10 (λ e. omega arith, (λ e. omega arith, tt)) in
-      (λ e. (q .0 e .0, alone (noEnding (b .row) c) 10 (q .0 e .1)), λ p. q .1 (p .0, inl (p .1, refl)))
+      (λ e. (q .0 e .0, alone (noEnding (lifted b) c) 10 (q .0 e .1)), λ p. q .1 (p .0, inl (p .1, refl)))
 
   module _ (i k : ℕ) (output : List ℕ) (f : ByFirst (ask (fold i k output))) where
     none-left : Line
-    none-left = noSplit (b .row) i k
+    none-left = noSplit (lifted b) i k
 
     longer : Line
-    longer = recordLonger (b .row) i k output
+    longer = recordLonger (b .row) (lifted b) i k output
 
-    record-nine : (r .said ≡ refused 9) ↔ (NoneListed b (ask (fold i k output)) × noSplit (b .row) i k .Met)
+    record-nine : (r .said ≡ refused 9) ↔ (NoneListed b (ask (fold i k output)) × noSplit (lifted b) i k .Met)
     unfolding Others First listed sought none-left longer
     record-nine =
         let q = behind (ask (fold i k output)) f 9 (λ e. omega arith, (λ e. omega arith, (λ e. omega arith, tt))) in
         (λ e. (q .0 e .0, first-of-two none-left longer (λ z. omega arith) (q .0 e .1)), λ p. q .1 (p .0, inl (p .1, refl)))
 
-    record-five : (r .said ≡ refused 5) ↔ (NoneListed b (ask (fold i k output)) × recordLonger (b .row) i k output .Met)
+    record-five : (r .said ≡ refused 5) ↔ (NoneListed b (ask (fold i k output)) × recordLonger (b .row) (lifted b) i k output .Met)
     unfolding Others First listed sought none-left longer
     record-five =
         let q = behind (ask (fold i k output)) f 5 (λ e. omega arith, (λ e. omega arith, (λ e. omega arith, tt))) in (
@@ -82,41 +83,63 @@ module _ (b : Book) (r : Reply) where
           λ p. q .1 (p .0, inr (λ g. g (p .1 .0) (p .1 .1 .is), inl (p .1, refl))),
         )
 
-  late : (call : Call) → ByFirst call → Late b call r
-  late call f = record {
-    split9 = λ i k ends e. rw e (split-late i k ends (rw e at f));
-    next10 = λ c e. rw e (next-late c (rw e at f));
-    record9 = λ i k output e. rw e (record-nine i k output (rw e at f));
-    record5 = λ i k output e. rw e (record-five i k output (rw e at f));
-  }
-
 same-number : {x y : ℕ} → refused x ≡ refused y → x ≡ y
 same-number e = cc
 
+-- a query's number names no place
+query-first : (b : Book) (q : Query) (r : Reply) → Outcome b (ask q) (lines b (ask q)) r → ByFirst b r (ask q)
+query-first b q r (under y p e) x = (
+  λ z. let w : y ≡ x = same-number (sym (ap (λ a. a .said) e) ∙ z) in rw w at p,
+  λ z. ap (λ a. a .said) e ∙ ap refused (first-one (lines b (ask q)) p z),
+)
+query-first b q r (fine p ok s) x = (λ z. absurd (ok x (inl z)), λ z. absurd (first-none (lines b (ask q)) x z p))
+
 module _ (b : Book) (call : Call) (r : Reply) where
-  -- refused under a number exactly where that is the first line that is met
-  refused-first : Outcome b call (lines b call) r → (x : ℕ) → (r .said ≡ refused x) ↔ First (lines b call) x
-  refused-first (under y p e) x = (
-    λ q. let z : y ≡ x = same-number (sym (ap (λ a. a .said) e) ∙ q) in rw z at p,
-    λ q. ap (λ a. a .said) e ∙ ap refused (first-one (lines b call) p q),
-  )
-  refused-first (fine p ok s) x = (λ q. absurd (ok x (inl q)), λ q. absurd (first-none (lines b call) x q p))
+  late : Outcome b call (lines b call) r → Late b call r
+  late o = record {
+    split9 = λ i k ends e. rw e (split-late b r i k ends (query-first b (split i k ends) r (rw e at o)));
+    next10 = λ c e. rw e (next-late b r c (query-first b (next c) r (rw e at o)));
+    record9 = λ i k output e. rw e (record-nine b r i k output (query-first b (fold i k output) r (rw e at o)));
+    record5 = λ i k output e. rw e (record-five b r i k output (query-first b (fold i k output) r (rw e at o)));
+  }
 
   outcome-answers : Outcome b call (lines b call) r → Answered b call r
+  unfolding listed sought
   outcome-answers o = record {
-    refuses = refused-first o;
+    refuses = refuses o;
+    places = places o;
     keeps = λ x e. keeps o x e;
     accepts = accepts o;
     says = λ p. says p o;
-    late = late b r call (refused-first o);
+    late = late o;
   }
     where
-      keeps : Outcome b call (lines b call) r → (x : ℕ) → r .said ≡ refused x → r .list ≡ lent call
-      keeps (under y p e) x q = ap (λ a. a .list) e
-      keeps (fine p ok s) x q = absurd (ok x (inl q))
+      refuses : Outcome b call (lines b call) r → (x : ℕ) → Under (r .said) x ↔ First (lines b call) x
+      refuses (under y p e) x =
+          let u : Under (r .said) y = subst (λ a. Under (a .said) y) (sym e) (placed-under call y (lent call)) in (
+            λ q. let z : y ≡ x = under-one u q in rw z at p,
+            λ q. subst (λ z. Under (r .said) z) (first-one (lines b call) p q) u,
+          )
+      refuses (fine p ok s) x = (λ q. absurd (ok x q), λ q. absurd (first-none (lines b call) x q p))
+
+      places : Outcome b call (lines b call) r → (x place : ℕ)
+          → (r .said ≡ refusedAt x place) ↔ (First (lines b call) x × PlaceOf call x place)
+      places (under y p e) x place =
+          let a = placed-at call y (lent call) (λ lifts q z. zero-met (length (b .row)) (b .K) lifts (rw (q, z) at p)) x place in (
+            λ q. let z = a .0 (sym (ap (λ a. a .said) e) ∙ q) in (subst (First (lines b call)) (sym (z .0)) p, z .1),
+            λ q. ap (λ a. a .said) e ∙ a .1 (first-one (lines b call) (q .0) p, q .1),
+          )
+      places (fine p ok s) x place = (λ q. absurd (ok x (inr (place, q))), λ q. absurd (first-none (lines b call) x (q .0) p))
+
+      keeps : Outcome b call (lines b call) r → (x : ℕ) → Under (r .said) x → r .list ≡ lent call
+      keeps (under y p e) x q = ap (λ a. a .list) e ∙ placed-list call _
+      keeps (fine p ok s) x q = absurd (ok x q)
 
       accepts : Outcome b call (lines b call) r → Accepted (r .said) ↔ NoneMet (lines b call)
-      accepts (under y p e) = (λ f. absurd (f y (inl (ap (λ a. a .said) e))), λ q. absurd (first-none (lines b call) y p q))
+      accepts (under y p e) = (
+        λ f. absurd (f y (subst (λ a. Under (a .said) y) (sym e) (placed-under call y (lent call)))),
+        λ q. absurd (first-none (lines b call) y p q),
+      )
       accepts (fine p ok s) = (λ _. p, λ _. ok)
 
       says : NoneMet (lines b call) → Outcome b call (lines b call) r → Says b call r
@@ -134,10 +157,12 @@ answered b call = outcome-answers b call _ (go _ (listed-tested (length (b .row)
     found : Reply
     found = foundFor b call
 
-    behind : NoneMet ls → Outcome b call (sought (b .row) call) found → Outcome b call (lines b call) found
-    behind p (under x q e) = under x (first-behind ls (sought (b .row) call) x p q) e
-    behind p (fine q ok s) = fine (none-both ls (sought (b .row) call) p q) ok s
+    behind : NoneMet ls → Outcome b call (sought (b .row) (lifted b) call) found → Outcome b call (lines b call) found
+    behind p (under x q e) = under x (first-behind ls (sought (b .row) (lifted b) call) x p q) e
+    behind p (fine q ok s) = fine (none-both ls (sought (b .row) (lifted b) call) p q) ok s
 
-    go : (number : ℕ) → Tested ls number → Outcome b call (lines b call) (unless number (lent call) found)
-    go number (hit p q) = under number (first-front ls (sought (b .row) call) number p) (unless-not number (lent call) found q)
-    go number (clear p q) = rw (unless-zero number (lent call) found q) (behind p (found-outcome b call p))
+    go : (number : ℕ) → Tested ls number → Outcome b call (lines b call) (placed call (unless number (lent call) found))
+    go number (hit p q) =
+        under number (first-front ls (sought (b .row) (lifted b) call) number p) (ap (placed call) (unless-not number (lent call) found q))
+    go number (clear p q) =
+        rw (unless-zero number (lent call) found q, found-plain b call) (behind p (found-outcome b call p))

@@ -1,6 +1,6 @@
--- Demand 1: the refusals, on any state whatever and in every run; show and lift.
+-- Demand 1: the refusals, on any state whatever and in every run; show, and lift on any state.
 use mathlib.Core.Path.{_≡_, refl, sym, ap, ap₂, subst, _∙_}
-use mathlib.Core.Logic.{_≢_, inl}
+use mathlib.Core.Logic.{_↔_, _≢_, inl, inr}
 use mathlib.Core.List.{List, [], _∷_, _++_, append-assoc, List·Memᴰ}
 use Prim.Native.Nat.{ℕ, _-_}
 use native.Mathlib.Omega.{arith}
@@ -11,61 +11,65 @@ use Rattle.models.specs.Core.{After, append}
 use Rattle.promises.specs.declared.Draft.{Draft}
 use Rattle.promises.specs.declared.Started.{Started}
 use Rattle.promises.specs.declared.Fed.{Fed}
-use Rattle.promises.specs.Answers.{gave, refused, Under, Reply, reply, startSays, feedSays, liftSays}
-use Rattle.promises.specs.Refusals.{startRefusal, feedRefusal, showRefusal, liftRefusal}
-use Rattle.promises.specs.Lifts.{lift}
-use Rattle.promises.specs.Book.{Book, Query, Call, start, feed, ask, lent, blank, bookOf}
-use Rattle.promises.specs.Replies.{unless, gives, refusalOf, foundFor, replyTo, sectionOf, shown, liftReply}
-use Rattle.promises.specs.Listed.{Line, First, NoneMet, listed, sought, showLines, liftLines}
+use Rattle.promises.specs.declared.Loaded.{Loaded}
+use Rattle.promises.specs.Answers.{gave, refused, refusedAt, Under, Reply, reply, startSays, feedSays, loadSays}
+use Rattle.promises.specs.Refusals.{startRefusal, feedRefusal, loadRefusal, showRefusal, liftRefusal}
+use Rattle.promises.specs.Lifts.{liftIn}
+use Rattle.promises.specs.Book.{Book, Query, Call, start, feed, load, ask, lift, lent, blank, bookOf}
+use Rattle.promises.specs.Replies.{unless, gives, refusalOf, placed, foundFor, replyTo, sectionOf, shown}
+use Rattle.promises.specs.Listed.{Line, First, NoneMet, listed, sought, showLines}
 use Rattle.promises.specs.Says.{PartOf}
-use Rattle.promises.specs.BookLaws.{unless-zero, unless-not}
+use Rattle.promises.specs.BookLaws.{unless-zero, unless-not, placed-under, placed-list}
 use Rattle.promises.specs.ShowLaws.{part-fits}
-use Rattle.promises.specs.State.{arraysOf}
-use Rattle.promises.specs.Promises.{maskByte, foundIn, computedTo, StartPromise, FeedPromise, Reads, ShowPromise}
-use Rattle.promises.specs.Runs.{Made, started, fed, asked, callOf, calls, replyOf, Meets, leaves}
-use Rattle.promises.specs.Demands.{soughtNumbers, Demand1Holds, Answered, Demand1RunHolds, ShowRight, ShowHolds, LiftRight, LiftHolds}
+use Rattle.promises.specs.State.{arraysOf, codeIn}
+use Rattle.promises.specs.Promises.{maskByte, foundIn, computedTo, StartPromise, FeedPromise, LoadPromise, Reads, ShowPromise}
+use Rattle.promises.specs.Runs.{Made, started, fed, loaded, asked, callOf, calls, replyOf, Meets, leaves}
+use Rattle.promises.specs.Demands.{soughtNumbers, PlaceOf, Demand1Holds, Answered, Demand1RunHolds, ShowRight, ShowHolds, LiftRight, LiftHolds}
 use Rattle.promises.proofs.Keeping.{gave-accepted, said-is, replied-at}
-use Rattle.promises.proofs.Listing.{Tested, hit, clear, first-one, first-none, show-tested, lift-tested}
+use Rattle.promises.proofs.Listing.{Tested, hit, clear, first-one, first-none, show-tested}
 use Rattle.promises.proofs.Finding.{OnlyUnder, gave-only}
 use Rattle.promises.proofs.Calls.{listed-tested, found-only}
+use Rattle.promises.proofs.Placing.{no-place, placed-at, zero-met}
 use Rattle.promises.proofs.Answering.{answered}
 
 -- On any state: a reply by the call's number, and by what is found where that is 0
 
-pub record ByNumber (number : ℕ) (list numbers : List ℕ) (r : Reply) : Type 0 where
+pub record ByNumber (number : ℕ) (call : Call) (r : Reply) : Type 0 where
   pub found : Reply
-  pub is : r ≡ unless number list found
-  pub only : OnlyUnder list numbers found
+  pub is : r ≡ placed call (unless number (lent call) found)
+  pub plain : placed call found ≡ found
+  pub only : OnlyUnder (lent call) (soughtNumbers call) found
 
-module _ {number : ℕ} {list numbers : List ℕ} {r : Reply} (h : ByNumber number list numbers r) where
-  by-refuses : number ≢ 0 → r .said ≡ refused number
-  by-refuses f = ap (λ x. x .said) (h .is ∙ unless-not number list (h .found) f)
+module _ {number : ℕ} {call : Call} {r : Reply} (h : ByNumber number call r) where
+  by-refused : number ≢ 0 → r ≡ placed call (reply (refused number) (lent call))
+  by-refused f = h .is ∙ ap (placed call) (unless-not number (lent call) (h .found) f)
 
-  by-found : number ≡ 0 → (x : ℕ) → Under (r .said) x → (r .list ≡ list) × List·Memᴰ x numbers
+  by-refuses : number ≢ 0 → Under (r .said) number
+  by-refuses f = subst (λ x. Under (x .said) number) (sym (by-refused f)) (placed-under call number (lent call))
+
+  by-found : number ≡ 0 → (x : ℕ) → Under (r .said) x → (r .said ≡ refused x) × (r .list ≡ lent call) × List·Memᴰ x (soughtNumbers call)
   by-found z x e =
-      let q : r ≡ h .found = h .is ∙ unless-zero number list (h .found) z in
+      let q : r ≡ h .found = h .is ∙ ap (placed call) (unless-zero number (lent call) (h .found) z) ∙ h .plain in
       let l = h .only x (subst (λ y. Under (y .said) x) q e) in
-      (ap (λ y. y .list) q ∙ l .0, l .1)
+      (ap (λ y. y .said) q ∙ l .0, ap (λ y. y .list) q ∙ l .1, l .2)
 
-  by-keeps : (x : ℕ) → Under (r .said) x → r .list ≡ list
+  by-keeps : (x : ℕ) → Under (r .said) x → r .list ≡ lent call
   by-keeps x e = elim (ℕ-discrete number 0) [
-    | yes z ↦ by-found z x e .0
-    | no f ↦ ap (λ y. y .list) (h .is ∙ unless-not number list (h .found) f)
+    | yes z ↦ by-found z x e .1
+    | no f ↦ ap (λ y. y .list) (by-refused f) ∙ placed-list call _
   ]
 
 start-numbered : {d : Draft} {K : ℕ} {r : Started} → StartPromise d K r
-    → ByNumber (refusalOf (d .n) (d .k) (start K)) (lent (start K)) (soughtNumbers (start K)) (reply (startSays (r .answer)) [])
+    → ByNumber (refusalOf (d .n) (d .k) (start K)) (start K) (reply (startSays (r .answer)) [])
 unfolding replyTo refusalOf lent foundFor sought
-start-numbered p = record { found = gives []; is = p .says blank; only = gave-only [] [] [] [] }
+start-numbered p = record { found = gives []; is = p .says blank; plain = refl; only = gave-only [] [] [] [] }
 
-query-numbered : {d : Draft} {q : Query} {r : Reply} → Reads d q r
-    → ByNumber (refusalOf (d .n) (d .k) (ask q)) (lent (ask q)) (soughtNumbers (ask q)) r
+query-numbered : {d : Draft} {q : Query} {r : Reply} → Reads d q r → ByNumber (refusalOf (d .n) (d .k) (ask q)) (ask q) r
 unfolding computedTo
-query-numbered {d} {q} p = record { found = foundIn d q; is = p .computes; only = found-only d q }
+query-numbered {d} {q} p = record { found = foundIn d q; is = p .computes; plain = refl; only = found-only d q }
 
 feed-numbered : {d : Draft} {pick : ℕ} {before : List ℕ} {r : Fed} {after : List ℕ} → FeedPromise d pick before r after
-    → ByNumber (refusalOf (d .n) (d .k) (feed pick before)) (lent (feed pick before)) (soughtNumbers (feed pick before))
-    (reply (feedSays (r .answer)) after)
+    → ByNumber (refusalOf (d .n) (d .k) (feed pick before)) (feed pick before) (reply (feedSays (r .answer)) after)
 unfolding refusalOf lent sought
 feed-numbered {d} {pick} {before} {r} {after} p = record {
   found = reply (gave values) (z .visits);
@@ -73,6 +77,7 @@ feed-numbered {d} {pick} {before} {r} {after} p = record {
     | yes q ↦ let c = p .computes q in ap₂ reply (c .says) (c .list) ∙ sym (unless-zero number before _ q)
     | no f ↦ let c = p .refuses f in ap₂ reply (c .0) (c .2) ∙ sym (unless-not number before _ f)
   ];
+  plain = refl;
   only = gave-only values before (z .visits) [];
 }
   where
@@ -80,16 +85,32 @@ feed-numbered {d} {pick} {before} {r} {after} p = record {
     number = feedRefusal (d .n) (d .k) pick (length before)
 
     z : After
-    z = append (d .k) (d .n) pick (arraysOf d) before
+    z = append (d .k) (d .n) (codeIn d pick) (arraysOf d) before
 
     values : List ℕ
     values = maskByte (z .row) ∷ z .count ∷ []
 
-numbered : (d : Draft) (m : Made) → Meets d m
-    → ByNumber (refusalOf (d .n) (d .k) (callOf m)) (lent (callOf m)) (soughtNumbers (callOf m)) (replyOf m)
+load-numbered : {d : Draft} {lifts : List ℕ} {r : Loaded} → LoadPromise d lifts r
+    → ByNumber (refusalOf (d .n) (d .k) (load lifts)) (load lifts) (reply (loadSays (r .answer)) [])
+unfolding refusalOf lent sought
+load-numbered {d} {lifts} p = record {
+  found = gives [];
+  is = elim (ℕ-discrete number 0) [
+    | yes q ↦ ap (λ s. reply s []) (p .computes q .0) ∙ ap (placed (load lifts)) (sym (unless-zero number [] (gives []) q))
+    | no f ↦ ap (λ s. reply s []) (p .refuses f .0) ∙ ap (placed (load lifts)) (sym (unless-not number [] (gives []) f))
+  ];
+  plain = refl;
+  only = gave-only [] [] [] [];
+}
+  where
+    number : ℕ
+    number = loadRefusal (d .n) (d .k) lifts
+
+numbered : (d : Draft) (m : Made) → Meets d m → ByNumber (refusalOf (d .n) (d .k) (callOf m)) (callOf m) (replyOf m)
 unfolding Meets replyOf callOf
 numbered d (started K r) p = start-numbered p
 numbered d (fed pick before r after) p = feed-numbered p
+numbered d (loaded lifts r) p = load-numbered p
 numbered d (asked q r) p = query-numbered p
 
 -- a refused call leaves the state
@@ -98,26 +119,45 @@ unfolding Meets replyOf leaves replyTo refusalOf lent foundFor
 state-kept d (started K r) p number e =
     p .refuses (λ z. gave-accepted (said-is (p .says blank ∙ unless-zero (startRefusal K) [] _ z)) number e)
 state-kept d (fed pick before r after) p number e = p .refuses (λ z. gave-accepted (p .computes z .says) number e) .1
+state-kept d (loaded lifts r) p number e = p .refuses (λ z. gave-accepted (p .computes z .0) number e) .1
 state-kept d (asked q r) p number e = refl
 
 pub demand1 : Demand1Holds
 demand1 d m p = record {
-  refuses = λ number f. refuses number f (listed-tested (d .n) (d .k) (callOf m));
-  otherwise = λ f number e. otherwise f number e (listed-tested (d .n) (d .k) (callOf m));
+  refuses = λ number f. refuses number f tested;
+  places = λ number place. places number place tested;
+  otherwise = λ f number e. otherwise f number e tested;
   keeps = λ number e. (by-keeps (numbered d m p) number e, state-kept d m p number e);
 }
   where
     ls : List Line
     ls = listed (d .n) (d .k) (callOf m)
 
-    refuses : (number : ℕ) → First ls number → Tested ls (refusalOf (d .n) (d .k) (callOf m)) → replyOf m .said ≡ refused number
-    refuses number f (hit g z) = by-refuses (numbered d m p) z ∙ ap refused (first-one ls g f)
+    tested : Tested ls (refusalOf (d .n) (d .k) (callOf m))
+    tested = listed-tested (d .n) (d .k) (callOf m)
+
+    refuses : (number : ℕ) → First ls number → Tested ls (refusalOf (d .n) (d .k) (callOf m)) → Under (replyOf m .said) number
+    refuses number f (hit g z) = subst (λ x. Under (replyOf m .said) x) (first-one ls g f) (by-refuses (numbered d m p) z)
     refuses number f (clear g z) = absurd (first-none ls number f g)
+
+    places : (number place : ℕ) → Tested ls (refusalOf (d .n) (d .k) (callOf m))
+        → (replyOf m .said ≡ refusedAt number place) ↔ (First ls number × PlaceOf (callOf m) number place)
+    places number place (hit g z) =
+        let e = ap (λ x. x .said) (by-refused (numbered d m p) z) in
+        let a = placed-at (callOf m) (refusalOf (d .n) (d .k) (callOf m)) (lent (callOf m))
+        (λ lifts q y. zero-met (d .n) (d .k) lifts (rw q at (subst (First (listed (d .n) (d .k) (callOf m))) y g))) number place in (
+          λ q. let t = a .0 (sym e ∙ q) in (subst (First ls) (sym (t .0)) g, t .1),
+          λ q. e ∙ a .1 (first-one ls (q .0) g, q .1),
+        )
+    places number place (clear g z) = (
+      λ q. absurd (no-place (sym (by-found (numbered d m p) z number (inr (place, q)) .0) ∙ q)),
+      λ q. absurd (first-none ls number (q .0) g),
+    )
 
     otherwise : NoneMet ls → (number : ℕ) → Under (replyOf m .said) number → Tested ls (refusalOf (d .n) (d .k) (callOf m))
         → List·Memᴰ number (soughtNumbers (callOf m))
     otherwise f number e (hit g z) = absurd (first-none ls _ g f)
-    otherwise f number e (clear g z) = by-found (numbered d m p) z number e .1
+    otherwise f number e (clear g z) = by-found (numbered d m p) z number e .2
 
 -- In every run
 
@@ -127,7 +167,7 @@ answered-at b call e = subst (Answered b call) (sym e) (answered b call)
 pub demand1-run : Demand1RunHolds
 demand1-run d K r ms o xs ys m e = answered-at (bookOf (calls xs)) (callOf m) (replied-at o xs ys m e)
 
--- Show and lift
+-- Show
 
 module _ (letters ends : List ℕ) (s : ℕ) {part : List ℕ} (p : ShowPromise letters ends s part) where
   show-part : showRefusal letters ends s ≢ 0 → part ≡ []
@@ -173,19 +213,24 @@ show-holds letters ends s part number p q = go (show-tested letters ends s)
       gives = λ _. show-gives letters ends s p z;
     }
 
+-- Lift, on any state
+
 pub lift-holds : LiftHolds
-unfolding liftReply
-lift-holds letter r p = go (lift-tested letter)
+unfolding computedTo foundIn refusalOf
+lift-holds d letter r p = go (listed-tested (d .n) (d .k) (ask (lift letter)))
   where
     ls : List Line
-    ls = liftLines letter
+    ls = listed (d .n) (d .k) (ask (lift letter))
 
-    go : Tested ls (liftRefusal letter) → LiftRight letter (liftSays r)
-    go (hit g f) = let e : liftSays r ≡ refused (liftRefusal letter) = said-is (p ∙ unless-not (liftRefusal letter) [] _ f) in record {
-      refuses = λ x. (λ h. let z : liftRefusal letter ≡ x = cc in rw z at g, λ h. e ∙ ap refused (first-one ls g h));
+    number : ℕ
+    number = liftRefusal (d .n) (d .k) letter
+
+    go : Tested ls number → LiftRight d letter (r .said)
+    go (hit g f) = let e : r .said ≡ refused number = said-is (p .computes ∙ unless-not number [] _ f) in record {
+      refuses = λ x. (λ h. let z : number ≡ x = cc in rw z at g, λ h. e ∙ ap refused (first-one ls g h));
       gives = λ h. absurd (first-none ls _ g h);
     }
-    go (clear g z) = let e : liftSays r ≡ gave (lift letter ∷ []) = said-is (p ∙ unless-zero (liftRefusal letter) [] _ z) in record {
+    go (clear g z) = let e : r .said ≡ gave (liftIn (d .lifts) letter ∷ []) = said-is (p .computes ∙ unless-zero number [] _ z) in record {
       refuses = λ x. (λ h. absurd (gave-accepted e x (inl h)), λ h. absurd (first-none ls x h g));
       gives = λ _. e;
     }

@@ -1,5 +1,5 @@
 -- Demand 3: one theorem about every run.
-use mathlib.Core.Path.{_≡_, refl, sym, ap, _∙_}
+use mathlib.Core.Path.{_≡_, refl, sym, ap, subst, _∙_}
 use mathlib.Core.Bool.{true}
 use mathlib.Core.Logic.{_↔_, inl}
 use mathlib.Core.List.{List, [], _∷_, _++_}
@@ -22,39 +22,44 @@ use Rattle.models.specs.Centres.{longest-centre-at}
 use Rattle.promises.specs.declared.Draft.{Draft}
 use Rattle.promises.specs.declared.Started.{Started}
 use Rattle.promises.specs.declared.Fed.{Fed}
-use Rattle.promises.specs.Answers.{Said, gave, refused, refusedAt, Reply, reply, startSays, feedSays}
-use Rattle.promises.specs.Refusals.{startRefusal, splitRefusal, centreRefusal, longestRefusal}
-use Rattle.promises.specs.Book.{Book, blank, split, longest, next, lent, startTaken}
+use Rattle.promises.specs.declared.Loaded.{Loaded}
+use Rattle.promises.specs.Answers.{Said, gave, refused, refusedAt, Under, Reply, reply, startSays, feedSays, loadSays}
+use Rattle.promises.specs.Refusals.{startRefusal, loadRefusal, splitRefusal, centreRefusal, longestRefusal}
+use Rattle.promises.specs.Lifts.{liftIn}
+use Rattle.promises.specs.LiftLaws.{lifted-length, lifted-more}
+use Rattle.promises.specs.Book.{Book, load, blank, split, longest, next, lent, lifted, fedRow, fedLifted, startTaken, loadTaken}
 use Rattle.promises.specs.Replies.{orNoSplit, orNoEnding, splitReply, refusalOf, foundFor, replyTo}
-use Rattle.promises.specs.BookLaws.{Case, taken, left, start-cases, passes7, unless-zero, unless-not}
+use Rattle.promises.specs.BookLaws.{Case, taken, left, start-cases, passes7, unless-zero, unless-not, placed-under}
+use Rattle.promises.specs.WritingLaws.{held-fits, load-number, load-case}
 use Rattle.promises.specs.State.{arraysOf}
 use Rattle.promises.specs.Holds.{Holds}
-use Rattle.promises.specs.Promises.{StartPromise, FeedPromise, Reads}
+use Rattle.promises.specs.Promises.{StartPromise, FeedPromise, LoadPromise, Reads}
 use Rattle.promises.specs.Demands.{Accepted, SplitRight, MovedRight, VisitsRight, Demand3Holds}
-use Rattle.promises.proofs.Keeping.{gave-accepted, said-is, list-is, fits, whole, start-met, holds-at-feed, feed-met}
+use Rattle.promises.proofs.Keeping.{gave-accepted, said-is, list-is, whole, start-met, holds-at-feed, feed-met, holds-at-load, load-met}
 use Rattle.promises.proofs.Feeding.{fed-accepted, fed-said, fed-list, fed-holds, fed-room}
 
 -- The longest ending's centre
 
 longest-said : {d : Draft} {b : Book} {r : Reply} → Holds d b → Reads d longest r
-    → r .said ≡ gave (longestCentre (word (b .row)) (length (b .row)) ∷ [])
+    → r .said ≡ gave (longestCentre (word (lifted b)) (length (lifted b)) ∷ [])
 unfolding replyTo refusalOf lent foundFor longestRefusal
 longest-said {d} {b} h p =
-    said-is (p .meaning b h ∙ unless-zero _ [] _ (passes7 (length (b .row)) (b .K) 0 (fits h) (h .least) (h .most)))
+    said-is (p .meaning b h ∙ unless-zero _ [] _ (passes7 (length (b .row)) (b .K) 0 (held-fits h) (h .least) (h .most)))
 
-moved-right : {d : Draft} {b : Book} {r : Reply} → Holds d b → Reads d longest r → MovedRight (b .row) (r .said)
+moved-right : {d : Draft} {b : Book} {r : Reply} → Holds d b → Reads d longest r → MovedRight (lifted b) (r .said)
 moved-right {d} {b} h p =
-    let w : ℕ → ℕ = word (b .row) in
-    let n : ℕ = length (b .row) in
+    let w : ℕ → ℕ = word (lifted b) in
+    let n : ℕ = length (lifted b) in
     let e : longestCentre w n ≡ 1 + (2 * n - longestOf w n) = omega (arith, longest-centre w n) in
     record { L = longestOf w n; longest = longest-is w n; moved = 2 * n - longestOf w n; says = longest-said h p ∙ ap (λ c. gave (c ∷ [])) e; exactly = refl }
 
 -- one pick more makes it no smaller
 onward : {d : Draft} {b : Book} → Holds d b → (pick : ℕ) → length (b .row) < mostPicks
-    → longestCentre (word (b .row)) (length (b .row)) ≤ longestCentre (word (b .row ++ pick ∷ [])) (length (b .row ++ pick ∷ []))
+    → longestCentre (word (lifted b)) (length (lifted b)) ≤ longestCentre (word (fedLifted b pick)) (length (fedLifted b pick))
 onward {d} {b} h pick l =
-    let m = means (b .K) pick (b .row) (arraysOf d) [] (h .arrays) l in
-    omega (arith, m .rises, m .longest, longest-centre-at (h .arrays .iterates .stretches .radii .longest))
+    let m = means (b .K) (liftIn (b .lifts) pick) (lifted b) (arraysOf d) [] (h .arrays) (omega (arith, lifted-length (b .lifts) (b .row))) in
+    rw (lifted-more (b .lifts) (b .row) pick)
+    (omega (arith, m .rises, m .longest, longest-centre-at (h .arrays .iterates .stretches .radii .longest)))
 
 -- Splits
 
@@ -88,11 +93,11 @@ split-found u i k before said after e = go (splitOf (word u) i k) (split-law (wo
 
 split-right : {d : Draft} {b : Book} → Holds d b → (i k : ℕ) (before : List ℕ) (r : Reply)
     → i ≤ length (b .row) → 1 ≤ k → k ≤ b .K → k ≤ length before → Reads d (split i k before) r
-    → SplitRight (b .row) i k before (r .said) (r .list)
+    → SplitRight (lifted b) i k before (r .said) (r .list)
 unfolding replyTo refusalOf lent foundFor
 split-right {d} {b} h i k before r x y z l p =
-    split-found (b .row) i k before (r .said) (r .list)
-    (p .meaning b h ∙ unless-zero _ before _ (split-passes (length (b .row)) (b .K) i k (length before) (fits h) (h .least) (h .most) y z l x))
+    split-found (lifted b) i k before (r .said) (r .list)
+    (p .meaning b h ∙ unless-zero _ before _ (split-passes (length (b .row)) (b .K) i k (length before) (held-fits h) (h .least) (h .most) y z l x))
 
 -- Visits
 
@@ -101,31 +106,32 @@ unfolding centreRefusal
 centre-passes n K c x y z l m = passes7 n K _ x y z ∙ simp (le-leb 1 c l, le-leb c (2 * n + 1) m)
 
 -- the call for the next shorter ending after one of length a
-next-said : {d : Draft} {b : Book} {a : ℕ} {r : Reply} → Holds d b → 0 < a → Ending (word (b .row)) (length (b .row)) a
-    → Reads d (next (centre (length (b .row)) a)) r
-    → r .said ≡ gave (centre (length (b .row)) (nextEnding (word (b .row)) (length (b .row)) a) ∷ a ∷ leastPeriod (word (b .row)) (length (b .row)) a ∷ [])
+next-said : {d : Draft} {b : Book} {a : ℕ} {r : Reply} → Holds d b → 0 < a → Ending (word (lifted b)) (length (lifted b)) a
+    → Reads d (next (centre (length (lifted b)) a)) r
+    → r .said ≡ gave (centre (length (lifted b)) (nextEnding (word (lifted b)) (length (lifted b)) a) ∷ a ∷ leastPeriod (word (lifted b)) (length (lifted b)) a ∷ [])
 unfolding replyTo refusalOf lent foundFor shorterAfter
 next-said {d} {b} {a} h l e p =
-    let n : ℕ = length (b .row) in
-    said-is (p .meaning b h ∙ unless-zero _ [] _ (centre-passes n (b .K) (centre n a) (fits h) (h .least) (h .most) (omega arith) (omega (arith, e .fits))))
-    ∙ ap orNoEnding (next-after (word (b .row)) n (centre n a) a l e refl)
+    let n : ℕ = length (lifted b) in
+    let high : centre n a ≤ 2 * length (b .row) + 1 = omega (arith, e .fits, lifted-length (b .lifts) (b .row)) in
+    said-is (p .meaning b h ∙ unless-zero _ [] _ (centre-passes (length (b .row)) (b .K) (centre n a) (held-fits h) (h .least) (h .most) (omega arith) high))
+    ∙ ap orNoEnding (next-after (word (lifted b)) n (centre n a) a l e refl)
 
 -- a visit leads to the next one, or to the empty ending
-leads-to : {d : Draft} {b : Book} {vs : List ℕ} {x y : ℕ} {r : Reply} → Holds d b → Visits (word (b .row)) (length (b .row)) vs
-    → Follows x y (vs ++ 0 ∷ []) → Reads d (next (centre (length (b .row)) x)) r
+leads-to : {d : Draft} {b : Book} {vs : List ℕ} {x y : ℕ} {r : Reply} → Holds d b → Visits (word (lifted b)) (length (lifted b)) vs
+    → Follows x y (vs ++ 0 ∷ []) → Reads d (next (centre (length (lifted b)) x)) r
     → (to len p : ℕ) × (r .said ≡ gave (to ∷ len ∷ p ∷ [])) × (len ≡ x) × (y ≡ nextLeading len p)
 leads-to {b = b} {x = x} h v f p =
     let l = visit-leads v f in
-    let is : Ending (word (b .row)) (length (b .row)) x = l .1 .is in
+    let is : Ending (word (lifted b)) (length (lifted b)) x = l .1 .is in
     (_, _, _, next-said h (l .0) is p, refl, visit-next v f _ (least-period x (l .0) (is .fits)))
 
 visits-right : {d : Draft} {b : Book} {pick : ℕ} {before : List ℕ} {r : Fed} {after : List ℕ} → Holds d b → FeedPromise d pick before r after
-    → Accepted (feedSays (r .answer)) → VisitsRight (b .row ++ pick ∷ []) before (feedSays (r .answer)) (r .state) after
+    → Accepted (feedSays (r .answer)) → VisitsRight (fedLifted b pick) before (feedSays (r .answer)) (r .state) after
 visits-right {d} {b} {pick} {before} {r} {after} h p ok =
-    let u : List ℕ = b .row ++ pick ∷ [] in
+    let u : List ℕ = fedLifted b pick in
     let vs : List ℕ = visits (word u) (length u) in
     let c : ℕ = length vs in
-    let some : 0 < length u = omega (arith, length-append (b .row) (pick ∷ [])) in
+    let some : 0 < length u = omega (arith, lifted-length (b .lifts) (fedRow b pick), length-append (b .row) (pick ∷ [])) in
     let e : after ≡ vs ++ drop c before = fed-list h p ok in
     let front : take c after ≡ vs = ap (take c) e ∙ take-at vs (drop c before) c refl in
     record {
@@ -140,7 +146,7 @@ visits-right {d} {b} {pick} {before} {r} {after} h p ok =
       walked = λ x y q f g. leads-to (fed-holds h p ok) (visits-are (word u) (length u)) (rw front at f) g;
     }
 
--- Starts
+-- Starts and loads
 
 start-accepted : {d : Draft} {K : ℕ} {r : Started} → StartPromise d K r → Accepted (startSays (r .answer)) ↔ (startTaken K ≡ true)
 unfolding replyTo refusalOf lent foundFor
@@ -149,6 +155,17 @@ start-accepted {d} {K} {r} p = go (start-cases K)
     go : Case (startTaken K) (startRefusal K) → Accepted (startSays (r .answer)) ↔ (startTaken K ≡ true)
     go (taken t z) = (λ _. t, λ _. gave-accepted (said-is (p .says blank ∙ unless-zero (startRefusal K) [] _ z)))
     go (left t z) = (λ ok. absurd (ok _ (inl (said-is (p .says blank ∙ unless-not (startRefusal K) [] _ z)))), λ y. absurd (true-false y t))
+
+load-accepted : {d : Draft} {b : Book} {lifts : List ℕ} {r : Loaded} → Holds d b → LoadPromise d lifts r
+    → Accepted (loadSays (r .answer)) ↔ (loadTaken b lifts ≡ true)
+load-accepted {d} {b} {lifts} {r} h p = go (load-case h lifts)
+  where
+    go : Case (loadTaken b lifts) (loadRefusal (length (b .row)) (b .K) lifts) → Accepted (loadSays (r .answer)) ↔ (loadTaken b lifts ≡ true)
+    go (taken t z) = (λ _. t, λ _. gave-accepted (p .computes (load-number h lifts ∙ z) .0))
+    go (left t z) =
+        let n : ℕ = loadRefusal (d .n) (d .k) lifts in
+        let u : Under (loadSays (r .answer)) n = subst (λ s. Under s n) (sym (p .refuses (λ q. z (sym (load-number h lifts) ∙ q)) .0)) (placed-under (load lifts) n []) in
+        (λ ok. absurd (ok n u), λ y. absurd (true-false y t))
 
 pub one : {a b : ℕ} → gave (a ∷ []) ≡ gave (b ∷ []) → a ≡ b
 one {a} {b} e = ap (λ s. first s) e
@@ -166,6 +183,7 @@ demand3 d K r ms o = record {
   visits = λ xs pick before x after f ok. visits-right (holds-at-feed o xs f) (feed-met o xs f) ok;
   starts = λ xs ys k x e. start-accepted (start-met o xs ys e);
   feeds = λ xs pick before x after f. fed-accepted (holds-at-feed o xs f) (feed-met o xs f);
+  loads = λ xs ys lifts x e. load-accepted (holds-at-load o xs ys lifts x e) (load-met o xs ys lifts x e);
   onward = λ xs pick before x after f ok p q i j g k e1 e2.
       let h = holds-at-feed o xs f in
       let m = feed-met o xs f in

@@ -10,6 +10,7 @@ use Rattle.words.specs.Computed.{longestCentre, splitOf}
 use Rattle.words.specs.Computed.{mask as maskOf, visits as lengthsOf, radiusAt as radiusOf}
 use Rattle.words.specs.Laws.{longest-centre}
 use Rattle.promises.specs.Answers.{gave, reply}
+use Rattle.promises.specs.Lifts.{fixedLifts, liftedBy}
 use Rattle.promises.specs.Replies.{orNoSplit, splitReply, refusalOf, fedVisits, foundFor, replyTo}
 use Rattle.promises.specs.Book.{lent}
 use Rattle.promises.specs.BookLaws.{unless-zero}
@@ -21,13 +22,17 @@ withTurns : Option (List ℕ) → Option (List ℕ)
 withTurns none = none
 withTurns (some ends) = some (turnCount ends ∷ ends)
 
+-- what is read of the letters
+read : List ℕ → List ℕ
+read u = liftedBy fixedLifts u
+
 found : List ℕ → Question → Option (List ℕ)
-unfolding maskOf lengthsOf longestCentre splitOf withTurns radiusOf
-found u mask = some (maskOf mostSections (word u) (length u) ∷ [])
+unfolding maskOf lengthsOf longestCentre splitOf withTurns radiusOf read
+found u mask = some (maskOf mostSections (word (read u)) (length u) ∷ [])
 found u visits = some (fedVisits (bookFor u visits) (lastPick u))
-found u moved = some ((longestCentre (word u) (length u) - 1) ∷ [])
-found u (splitIn k) = withTurns (splitOf (word u) (length u) k)
-found u (radiusAt c) = some (radiusOf (word u) (length u) c ∷ [])
+found u moved = some ((longestCentre (word (read u)) (length (read u)) - 1) ∷ [])
+found u (splitIn k) = withTurns (splitOf (word (read u)) (length u) k)
+found u (radiusAt c) = some (radiusOf (word (read u)) (length (read u)) c ∷ [])
 
 -- on a list of so many zeros: the number hangs on the list's length only
 number : List ℕ → Question → ℕ
@@ -63,13 +68,13 @@ same-number n K u (radiusAt c) list other e = refl
 reply-is : (u : List ℕ) (q : Question) (answer : Option (List ℕ)) (list : List ℕ)
     → refusalOf (length (bookFor u q .row)) mostSections (callFor u q list) ≡ 0 → found u q ≡ answer
     → replyTo (bookFor u q) (callFor u q list) ≡ replyWith u q answer list
-unfolding replyTo refusalOf lent foundFor found withTurns orNoSplit
+unfolding replyTo refusalOf lent foundFor found withTurns orNoSplit read
 reply-is u mask answer list z e = rw (← e) (unless-zero _ [] _ z)
 reply-is u visits answer list z e = rw (← e) (unless-zero _ list _ z)
 reply-is u moved answer list z e =
-    rw (← e) (unless-zero _ [] _ z ∙ ap (λ c. reply (gave (c ∷ [])) []) (omega (arith, longest-centre (word u) (length u))))
+    rw (← e) (unless-zero _ [] _ z ∙ ap (λ c. reply (gave (c ∷ [])) []) (omega (arith, longest-centre (word (read u)) (length (read u)))))
 reply-is u (splitIn k) answer list z e =
-    unless-zero _ list _ z ∙ counted (splitOf (word u) (length u) k) ∙ ap (λ a. replyWith u (splitIn k) a list) e
+    unless-zero _ list _ z ∙ counted (splitOf (word (read u)) (length u) k) ∙ ap (λ a. replyWith u (splitIn k) a list) e
   where
     counted : (o : Option (List ℕ)) → splitReply o list ≡ replyWith u (splitIn k) (withTurns o) list
     counted none = refl

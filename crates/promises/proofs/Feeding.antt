@@ -2,7 +2,7 @@
 use mathlib.Core.Path.{_≡_, subst, _∙_}
 use mathlib.Core.Bool.{true, cond, _&&_, and-eq-true-iff}
 use mathlib.Core.Logic.{_↔_, inl}
-use mathlib.Core.List.{List, [], _∷_, _++_}
+use mathlib.Core.List.{List, [], _∷_}
 use Prim.Native.Nat.{ℕ, _<_}
 use lib.Dec.{leb, ltb}
 use lib.ListN.{length}
@@ -14,13 +14,14 @@ use Rattle.promises.specs.declared.Fed.{Fed}
 use Rattle.promises.specs.Answers.{gave, reply, feedSays, filled}
 use Rattle.promises.specs.Refusals.{feedRefusal}
 use Rattle.words.specs.Ranges.{between}
-use Rattle.promises.specs.Book.{Book, book, lent, feedTaken, write}
+use Rattle.promises.specs.Book.{Book, book, lent, fedRow, feedTaken, write}
 use Rattle.promises.specs.Replies.{unless, fedReply, fedMask, fedVisits, refusalOf, foundFor, replyTo}
 use Rattle.promises.specs.BookLaws.{Case, taken, left, unless-zero, unless-not}
 use Rattle.promises.specs.Holds.{Holds}
+use Rattle.promises.specs.WritingLaws.{feed-case}
 use Rattle.promises.specs.Promises.{FeedPromise}
 use Rattle.promises.specs.Demands.{Accepted}
-use Rattle.promises.proofs.Keeping.{gave-accepted, said-is, list-is, feed-taken}
+use Rattle.promises.proofs.Keeping.{gave-accepted, said-is, list-is}
 
 module _ {d : Draft} {b : Book} {pick : ℕ} {before : List ℕ} {r : Fed} {after : List ℕ} (h : Holds d b) (p : FeedPromise d pick before r after) where
   is : reply (feedSays (r .answer)) after
@@ -30,7 +31,7 @@ module _ {d : Draft} {b : Book} {pick : ℕ} {before : List ℕ} {r : Fed} {afte
 
   -- accepted exactly when the book takes it
   pub fed-accepted : Accepted (feedSays (r .answer)) ↔ (feedTaken b pick (length before) ≡ true)
-  fed-accepted = go (feed-taken h pick (length before))
+  fed-accepted = go (feed-case h pick (length before))
     where
       go : Case (feedTaken b pick (length before)) (feedRefusal (length (b .row)) (b .K) pick (length before))
           → Accepted (feedSays (r .answer)) ↔ (feedTaken b pick (length before) ≡ true)
@@ -39,7 +40,7 @@ module _ {d : Draft} {b : Book} {pick : ℕ} {before : List ℕ} {r : Fed} {afte
 
   fed-reply : Accepted (feedSays (r .answer))
       → reply (feedSays (r .answer)) after ≡ fedReply (fedMask b pick) (fedVisits b pick) before
-  fed-reply ok = go (feed-taken h pick (length before))
+  fed-reply ok = go (feed-case h pick (length before))
     where
       go : Case (feedTaken b pick (length before)) (feedRefusal (length (b .row)) (b .K) pick (length before))
           → reply (feedSays (r .answer)) after ≡ fedReply (fedMask b pick) (fedVisits b pick) before
@@ -53,11 +54,11 @@ module _ {d : Draft} {b : Book} {pick : ℕ} {before : List ℕ} {r : Fed} {afte
   fed-list ok = list-is (fed-reply ok)
 
   -- the state holds the row with the pick, and there was room for it
-  pub fed-holds : Accepted (feedSays (r .answer)) → Holds (r .state) (book (b .K) (b .row ++ pick ∷ []))
+  pub fed-holds : Accepted (feedSays (r .answer)) → Holds (r .state) (book (b .K) (b .lifts) (fedRow b pick))
   unfolding write
   fed-holds ok =
       let t : feedTaken b pick (length before) ≡ true = fed-accepted .0 ok in
-      subst (λ x. Holds (r .state) (cond x (book (b .K) (b .row ++ pick ∷ [])) b)) t (p .meaning b h .holds)
+      subst (λ x. Holds (r .state) (cond x (book (b .K) (b .lifts) (fedRow b pick)) b)) t (p .meaning b h .holds)
 
   pub fed-room : Accepted (feedSays (r .answer)) → length (b .row) < mostPicks
   fed-room ok =

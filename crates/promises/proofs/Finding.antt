@@ -20,8 +20,9 @@ use Rattle.words.specs.Laws.{row-bit, row-past, mask-bit, least-period, next-en
 use Rattle.words.specs.Splits.{Splitting, given, lacking, split-law, named-one}
 use Rattle.promises.specs.Answers.{gave, refused, Under, Reply, reply, filled}
 use Rattle.layout.specs.Record.{recordOf}
-use Rattle.promises.specs.Book.{Book, Call, ask, lent, split, next, fold}
-use Rattle.promises.specs.Replies.{orNoSplit, orNoEnding, orTooLong, gives, splitReply, recordReply}
+use Rattle.promises.specs.Book.{Book, Call, ask, lent, lifted, split, next, fold}
+use Rattle.promises.specs.Replies.{orNoSplit, orNoEnding, orTooLong, gives, splitReply, recordReply, placed}
+use Rattle.promises.specs.LiftLaws.{lifted-length}
 use Rattle.promises.specs.Listed.{Line, First, NoneMet, Outside, recordLonger, noSplit, noEnding}
 use Rattle.promises.specs.Says.{Yes, RadiusSays, Says}
 use Rattle.promises.specs.Demands.{Accepted}
@@ -31,7 +32,7 @@ use Rattle.promises.proofs.Keeping.{gave-accepted}
 
 -- refused under the first of them, or none is met and the reply is what document 01 says
 pub data Outcome (b : Book) (call : Call) (ls : List Line) (r : Reply) : Type 0 where
-  under : (number : ℕ) → First ls number → r ≡ reply (refused number) (lent call) → Outcome b call ls r
+  under : (number : ℕ) → First ls number → r ≡ placed call (reply (refused number) (lent call)) → Outcome b call ls r
   fine : NoneMet ls → Accepted (r .said) → Says b call r → Outcome b call ls r
 
 -- From the book
@@ -51,36 +52,36 @@ mask-yes K u i = record {
 
 -- a split, or the want of one
 pub splits-found : (b : Book) (i k : ℕ) (list : List ℕ)
-    → Outcome b (ask (split i k list)) (noSplit (b .row) i k ∷ [])
-    (splitReply (splitOf (word (b .row)) i k) list)
+    → Outcome b (ask (split i k list)) (noSplit (lifted b) i k ∷ [])
+    (splitReply (splitOf (word (lifted b)) i k) list)
 unfolding First NoneMet Says lent orNoSplit
-splits-found b i k list = go (splitOf (word (b .row)) i k) (split-law (word (b .row)) k i)
+splits-found b i k list = go (splitOf (word (lifted b)) i k) (split-law (word (lifted b)) k i)
   where
-    go : (o : Option (List ℕ)) → Splitting (word (b .row)) i k o
-        → Outcome b (ask (split i k list)) (noSplit (b .row) i k ∷ []) (splitReply o list)
+    go : (o : Option (List ℕ)) → Splitting (word (lifted b)) i k o
+        → Outcome b (ask (split i k list)) (noSplit (lifted b) i k ∷ []) (splitReply o list)
     go o (lacking p f) = rw p (under 9 (inl (f, refl)) refl)
     go o (given ends p n) = rw p (fine (λ f. f ends (n .is), tt) (gave-accepted refl) (record { ends = ends; named = n; is = refl }))
 
 -- the radius of the longest stretch at a centre
-pub radius-found : (b : Book) (c : ℕ) → (Outside 1 (2 * length (b .row) + 1) c → ⊥) → RadiusSays (b .row) c (gives (radiusAt (word (b .row)) (length (b .row)) c ∷ []))
+pub radius-found : (b : Book) (c : ℕ) → (Outside 1 (2 * length (b .row) + 1) c → ⊥) → RadiusSays (lifted b) c (gives (radiusAt (word (lifted b)) (length (lifted b)) c ∷ []))
 radius-found b c f =
     let l = not-outside 1 (2 * length (b .row) + 1) c f in
-    let r = radius-at (word (b .row)) (length (b .row)) c (l .0) (l .1) in
+    let r = radius-at (word (lifted b)) (length (lifted b)) c (l .0) (omega (arith, l .1, lifted-length (b .lifts) (b .row))) in
     record { len = r .0; longest = r .1; is = ap (λ x. reply (gave (x ∷ [])) []) (r .2) }
 
 -- the next shorter ending, or the want of one that has the centre
 pub next-found : (b : Book) (c : ℕ)
-    → Outcome b (ask (next c)) (noEnding (b .row) c ∷ []) (reply (orNoEnding (nextAfter (word (b .row)) (length (b .row)) c)) [])
+    → Outcome b (ask (next c)) (noEnding (lifted b) c ∷ []) (reply (orNoEnding (nextAfter (word (lifted b)) (length (lifted b)) c)) [])
 unfolding First NoneMet Says lent shorterAfter
 next-found b c = go (nextAfter w n c) (next-law w n c)
   where
     w : ℕ → ℕ
-    w = word (b .row)
+    w = word (lifted b)
 
     n : ℕ
-    n = length (b .row)
+    n = length (lifted b)
 
-    go : (o : Option NextShorter) → NextAfter w n c o → Outcome b (ask (next c)) (noEnding (b .row) c ∷ []) (reply (orNoEnding o) [])
+    go : (o : Option NextShorter) → NextAfter w n c o → Outcome b (ask (next c)) (noEnding (lifted b) c ∷ []) (reply (orNoEnding o) [])
     go o (there len q l e z) =
         let next = next-ending w n len l in
         let least = least-period {w = w} {n = n} len l (e .fits) in
@@ -100,16 +101,16 @@ next-found b c = go (nextAfter w n c) (next-law w n c)
 
 -- the record of the split named, where it fits the output
 pub record-found : (b : Book) (i k : ℕ) (output : List ℕ)
-    → Outcome b (ask (fold i k output)) (noSplit (b .row) i k ∷ recordLonger (b .row) i k output ∷ [])
-    (recordReply (word (b .row)) i (splitOf (word (b .row)) i k) output)
+    → Outcome b (ask (fold i k output)) (noSplit (lifted b) i k ∷ recordLonger (b .row) (lifted b) i k output ∷ [])
+    (recordReply (word (b .row)) i (splitOf (word (lifted b)) i k) output)
 unfolding First NoneMet Says lent orNoSplit orTooLong
-record-found b i k output = go (splitOf (word (b .row)) i k) (split-law (word (b .row)) k i)
+record-found b i k output = go (splitOf (word (lifted b)) i k) (split-law (word (lifted b)) k i)
   where
     w : ℕ → ℕ
     w = word (b .row)
 
-    go : (o : Option (List ℕ)) → Splitting w i k o
-        → Outcome b (ask (fold i k output)) (noSplit (b .row) i k ∷ recordLonger (b .row) i k output ∷ [])
+    go : (o : Option (List ℕ)) → Splitting (word (lifted b)) i k o
+        → Outcome b (ask (fold i k output)) (noSplit (lifted b) i k ∷ recordLonger (b .row) (lifted b) i k output ∷ [])
         (recordReply w i o output)
     go o (lacking p f) = rw p (under 9 (inl (f, refl)) refl)
     go o (given ends p n) = rw p (elim (decLt (length output) (length (recordOf w i ends))) [
@@ -120,15 +121,15 @@ record-found b i k output = go (splitOf (word (b .row)) i k) (split-law (word (b
 
 -- In the stored arrays
 
--- a reply that refuses under these numbers only, and then keeps its list
+-- a reply that refuses under these numbers only, with no place, and then keeps its list
 abbrev pub OnlyUnder : (list numbers : List ℕ) → Reply → Type 0
-OnlyUnder list numbers r = (number : ℕ) → Under (r .said) number → (r .list ≡ list) × List·Memᴰ number numbers
+OnlyUnder list numbers r = (number : ℕ) → Under (r .said) number → (r .said ≡ refused number) × (r .list ≡ list) × List·Memᴰ number numbers
 
 pub gave-only : (l list after numbers : List ℕ) → OnlyUnder list numbers (reply (gave l) after)
 gave-only l list after numbers number e = absurd (gave-accepted refl number e)
 
 refused-only : (x : ℕ) (list numbers : List ℕ) → List·Memᴰ x numbers → OnlyUnder list numbers (reply (refused x) list)
-refused-only x list numbers h number (inl e) = let z : x ≡ number = cc in (refl, rw (← z) h)
+refused-only x list numbers h number (inl e) = let z : x ≡ number = cc in (e, refl, rw (← z) h)
 refused-only x list numbers h number (inr e) = clash (cc (e .1))
 
 pub no-split-only : (o : Option (List ℕ)) (list numbers : List ℕ) (f : List ℕ → Reply) → ((ends : List ℕ) → OnlyUnder list (9 ∷ numbers) (f ends))

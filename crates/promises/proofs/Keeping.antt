@@ -1,25 +1,31 @@
 -- One call, and then a whole run: the state holds what stands in the book, and each reply is the one that the book gives.
-use mathlib.Core.Path.{_≡_, sym, ap, subst, _∙_}
+use mathlib.Core.Path.{_≡_, refl, sym, ap, subst, _∙_}
 use mathlib.Core.Logic.{inl, inr}
-use mathlib.Core.Bool.{true, cond}
+use mathlib.Core.Bool.{Bool, true, false, cond, _&&_, and-eq-true-iff}
 use mathlib.Core.List.{List, [], _∷_, _++_}
-use Prim.Native.Nat.{ℕ, _≤_}
+use Prim.Native.Nat.{ℕ}
+use lib.Dec.{leb, ltb}
 use lib.ListN.{length}
 use borrow.Author.Tests.{le-leb}
 use Rattle.words.specs.Cases.{clash, true-false}
-use Rattle.words.specs.Definitions.{mostPicks, mostSections}
+use Rattle.words.specs.Definitions.{mostPicks, mostSections, mostVisits, firstLetter, lastLetter}
+use Rattle.words.specs.Ranges.{between, between-true}
+use Rattle.layout.specs.Layout.{Every, none, Letter}
+use Rattle.layout.specs.Entries.{every-snoc}
 use Rattle.promises.specs.declared.Draft.{Draft}
 use Rattle.promises.specs.declared.Started.{Started}
 use Rattle.promises.specs.declared.Fed.{Fed}
+use Rattle.promises.specs.declared.Loaded.{Loaded}
 use Rattle.promises.specs.Answers.{Said, gave, reply}
-use Rattle.promises.specs.Refusals.{startRefusal, feedRefusal}
-use Rattle.promises.specs.Book.{Book, book, blank, startTaken, feedTaken, write, writeAll, bookOf, start}
+use Rattle.promises.specs.Refusals.{startRefusal}
+use Rattle.promises.specs.Lifts.{fixedLifts}
+use Rattle.promises.specs.Book.{Book, book, Call, start, feed, load, ask, blank, fedRow, startTaken, feedTaken, loadTaken, write, writeAll, bookOf}
 use Rattle.promises.specs.Replies.{replyTo, replies}
-use Rattle.promises.specs.BookLaws.{Case, taken, left, start-cases, feed-cases}
+use Rattle.promises.specs.BookLaws.{Case, taken, left, start-cases}
 use Rattle.promises.specs.Holds.{Holds}
 use Rattle.promises.specs.WritingLaws.{start-holds}
-use Rattle.promises.specs.Promises.{StartPromise, FeedPromise}
-use Rattle.promises.specs.Runs.{Made, started, fed, asked, callOf, calls, replyOf, Meets, leaves, Run, last}
+use Rattle.promises.specs.Promises.{StartPromise, FeedPromise, LoadPromise}
+use Rattle.promises.specs.Runs.{Made, started, fed, loaded, asked, callOf, calls, replyOf, Meets, leaves, Run, last}
 use Rattle.promises.specs.Demands.{Opened, Accepted, FeedAmong}
 
 -- Answers that are accepted
@@ -38,26 +44,22 @@ list-is e = ap (λ r. r .list) e
 -- One call
 
 module _ {d : Draft} {b : Book} (h : Holds d b) where
-  pub fits : length (b .row) ≤ mostPicks
-  fits = h .arrays .fits
-
-  pub feed-taken : (pick entries : ℕ) → Case (feedTaken b pick entries) (feedRefusal (length (b .row)) (b .K) pick entries)
-  feed-taken pick entries = feed-cases b pick entries fits (h .least) (h .most)
-
   pub keep : (m : Made) → Meets d m → Holds (leaves d m) (write b (callOf m))
   unfolding Meets leaves callOf write
   keep (started K r) p = go (start-cases K)
     where
-      go : Case (startTaken K) (startRefusal K) → Holds (r .state) (cond (startTaken K) (book K []) b)
+      go : Case (startTaken K) (startRefusal K) → Holds (r .state) (cond (startTaken K) (book K fixedLifts []) b)
       go (taken t z) = rw t (start-holds p z)
       go (left t z) = rw (t, p .refuses z) h
   keep (fed pick before r after) p = p .meaning b h .holds
+  keep (loaded lifts r) p = p .meaning b h .holds
   keep (asked q r) p = h
 
   pub replied : (m : Made) → Meets d m → replyOf m ≡ replyTo b (callOf m)
   unfolding Meets replyOf callOf
   replied (started K r) p = p .says b
   replied (fed pick before r after) p = p .meaning b h .replies
+  replied (loaded lifts r) p = p .meaning b h .replies
   replied (asked q r) p = p .meaning b h
 
 -- The calls, one after the other
@@ -71,6 +73,29 @@ pub upto : (d : Draft) (xs ys : List Made) (m : Made) → Run d (xs ++ m ∷ ys)
 unfolding Run last
 upto d [] ys m t = (tt, t .0)
 upto d (x ∷ xs) ys m t = let r = upto (leaves d x) xs ys m (t .1) in ((t .0, r .0), r .1)
+
+-- Every letter in the book is one
+
+pub letters-of : (b : Book) (cs : List Call) → Every Letter (b .row) → Every Letter (writeAll b cs .row)
+unfolding writeAll write
+letters-of b [] h = h
+letters-of b (start K ∷ cs) h = letters-of (write b (start K)) cs (go (startTaken K))
+  where
+    go : (t : Bool) → Every Letter (cond t (book K fixedLifts []) b .row)
+    go true = none
+    go false = h
+letters-of b (feed pick visits ∷ cs) h = letters-of (write b (feed pick visits)) cs (go (feedTaken b pick (length visits)) refl)
+  where
+    go : (t : Bool) → feedTaken b pick (length visits) ≡ t → Every Letter (cond t (book (b .K) (b .lifts) (fedRow b pick)) b .row)
+    go true e = every-snoc h (between-true firstLetter lastLetter pick
+        (and-eq-true-iff (between firstLetter lastLetter pick) (leb mostVisits (length visits) && ltb (length (b .row)) mostPicks) .0 e .0))
+    go false e = h
+letters-of b (load lifts ∷ cs) h = letters-of (write b (load lifts)) cs (go (loadTaken b lifts))
+  where
+    go : (t : Bool) → Every Letter (cond t (book (b .K) lifts (b .row)) b .row)
+    go true = h
+    go false = h
+letters-of b (ask q ∷ cs) h = letters-of b cs h
 
 -- A run that opens with an accepted start
 
@@ -129,16 +154,29 @@ module _ {d : Draft} {K : ℕ} {r : Started} {ms : List Made} (o : Opened d K r 
   holds-before [] ys m f e t = let z : m ≡ started K r = cc in absurd (f z)
   holds-before (x ∷ xs) ys m f e t = let z : x ≡ started K r = cc in opened-at x xs z t
 
+  -- a call that is not the first
+  met-at : (xs ys : List Made) (m : Made) → (m ≡ started K r → ⊥) → started K r ∷ ms ≡ xs ++ m ∷ ys
+      → Holds (last d xs) (bookOf (calls xs)) × Meets (last d xs) m
+  met-at xs ys m f e = let t = upto d xs ys m (rw e at (o .run)) in (holds-before xs ys m f e (t .0), t .1)
+
   fed-not : {pick : ℕ} {before : List ℕ} {x : Fed} {after : List ℕ} → fed pick before x after ≡ started K r → ⊥
   fed-not {pick} {before} {x} {after} e = clash cc
 
   module _ (xs : List Made) {pick : ℕ} {before : List ℕ} {x : Fed} {after : List ℕ} (f : FeedAmong (started K r ∷ ms) xs pick before x after) where
-    parted : Run d xs × Meets (last d xs) (fed pick before x after)
-    parted = upto d xs (f .rest) (fed pick before x after) (rw (f .is) at (o .run))
-
     pub holds-at-feed : Holds (last d xs) (bookOf (calls xs))
-    holds-at-feed = holds-before xs (f .rest) (fed pick before x after) fed-not (f .is) (parted .0)
+    holds-at-feed = met-at xs (f .rest) (fed pick before x after) fed-not (f .is) .0
 
     pub feed-met : FeedPromise (last d xs) pick before x after
     unfolding Meets
-    feed-met = parted .1
+    feed-met = met-at xs (f .rest) (fed pick before x after) fed-not (f .is) .1
+
+  loaded-not : {lifts : List ℕ} {x : Loaded} → loaded lifts x ≡ started K r → ⊥
+  loaded-not {lifts} {x} e = clash cc
+
+  module _ (xs ys : List Made) (lifts : List ℕ) (x : Loaded) (f : started K r ∷ ms ≡ xs ++ loaded lifts x ∷ ys) where
+    pub holds-at-load : Holds (last d xs) (bookOf (calls xs))
+    holds-at-load = met-at xs ys (loaded lifts x) loaded-not f .0
+
+    pub load-met : LoadPromise (last d xs) lifts x
+    unfolding Meets
+    load-met = met-at xs ys (loaded lifts x) loaded-not f .1

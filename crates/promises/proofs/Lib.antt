@@ -2,6 +2,7 @@ pub mod Keeping
 pub mod Listing
 pub mod Finding
 pub mod Calls
+pub mod Placing
 pub mod Answering
 pub mod Demand1
 pub mod AnyState
@@ -14,3 +15,6 @@ pub mod Drafts
 pub mod Unfolding
 pub mod ReadBack
 pub mod ReadExamples
+pub mod LiftExamples
+pub mod LikeWords
+pub mod Alike

@@ -6,15 +6,17 @@ use mathlib.Core.List.{List, [], _∷_, _++_}
 use Prim.Native.Nat.{ℕ, _+_, _≤_, _<_}
 use native.Mathlib.Omega.{arith}
 use native.Mathlib.Decide.{decLt}
-use lib.Dec.{leb, ltb}
+use lib.Dec.{eqb, leb, ltb}
 use lib.ListN.{length}
-use borrow.Author.Tests.{leb-true, ltb-true, le-leb, lt-ltb}
-use Rattle.words.specs.Definitions.{mostPicks, mostSections, firstLetter, lastLetter}
+use borrow.Author.Tests.{leb-true, ltb-true, eqb-true, le-leb, lt-ltb, eq-eqb}
+use Rattle.words.specs.Definitions.{mostPicks, mostSections}
 use Rattle.words.specs.Computed.{rising?}
-use Rattle.promises.specs.Refusals.{test, line4, line6, line7, line8, showRefusal, liftRefusal}
+use Rattle.promises.specs.Lifts.{noneZero, firstZero}
+use Rattle.promises.specs.LiftLaws.{zero-there, zero-nowhere}
+use Rattle.promises.specs.Refusals.{test, line4, line6, line7, line8, line15, showRefusal}
 use Rattle.words.specs.Cases.{true-false}
 use Rattle.words.specs.Ranges.{between, between-true}
-use Rattle.promises.specs.Listed.{Line, line, First, NoneMet, Outside, prefixAbove, endsNotRising, noDraft, full, showLines, liftLines}
+use Rattle.promises.specs.Listed.{Line, line, First, NoneMet, Outside, prefixAbove, endsNotRising, zeroLift, noDraft, full, showLines}
 
 -- The first line that is met is one, and there is none where none is met
 
@@ -140,12 +142,18 @@ check-rising letters ends ls after k =
     (λ e h. true-false (decide-iff (rising? (length letters) 0 ends) .1 h) e)
     (λ e f. f (decide-iff (rising? (length letters) 0 ends) .0 e)) (λ _. k)
 
--- Show and lift
+-- not so many
+pub check-equal : (number size x : ℕ) (ls : List Line) (after : ℕ) → number ≢ 0 → Tested ls after
+    → Tested (line number (x ≢ size) ∷ ls) (test (eqb x size) number after)
+check-equal number size x ls after z k = check (line number (x ≢ size)) ls (eqb x size) after z
+    (λ e q. true-false (eq-eqb x size q) e) (λ e f. f (eqb-true x size e)) (λ _. k)
+
+pub check-zero : (lifts : List ℕ) (ls : List Line) (after : ℕ) → Tested ls after → Tested (zeroLift lifts ∷ ls) (line15 lifts after)
+check-zero lifts ls after k = check (zeroLift lifts) ls (noneZero lifts) after (λ e. omega arith)
+    (λ e. (firstZero lifts, zero-there lifts e)) (λ e f. zero-nowhere lifts (f .0) e (f .1 .within) (f .1 .zero)) (λ _. k)
+
+-- Show
 
 pub show-tested : (letters ends : List ℕ) (s : ℕ) → Tested (showLines letters ends s) (showRefusal letters ends s)
 unfolding showRefusal
 show-tested letters ends s = check-outside 4 1 (length ends) s _ _ (λ e. omega arith) (check-rising letters ends [] 0 over)
-
-pub lift-tested : (letter : ℕ) → Tested (liftLines letter) (liftRefusal letter)
-unfolding liftRefusal
-lift-tested letter = check-outside 2 firstLetter lastLetter letter [] 0 (λ e. omega arith) over

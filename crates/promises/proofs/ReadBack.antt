@@ -1,63 +1,46 @@
--- A reader yields a record's sections; and what the board wrote of a draft unfolds to it again.
-use mathlib.Core.Path.{_≡_, refl, sym, ap, subst, _∙_}
-use mathlib.Core.Bool.{Bool, true, false, cond, _&&_, and-eq-true-iff}
-use mathlib.Core.List.{List, [], _∷_, map, reverse, reverse-append}
-use Prim.Native.Nat.{ℕ, _+_, _-_, _≤_, _<_}
+-- A reader yields a record's sections; and what the board wrote of a draft unfolds to one with the same lifts.
+use mathlib.Core.Path.{_≡_, refl, sym, ap, ap₂, subst, _∙_}
+use mathlib.Core.List.{List, [], _∷_, _++_, map, map-append, reverse, reverse-append, reverse-cons}
+use Prim.Native.Nat.{ℕ, zero, suc, _+_, _-_, _/_, _≤_, _<_}
 use native.Mathlib.Omega.{arith}
 use native.Mathlib.Decide.{decLt}
-use lib.Dec.{leb, ltb}
 use lib.ListN.{length, take, drop}
 use lib.Seq.{take-append-seam}
 use borrow.Author.Tests.{eq-eqb, le-leb}
-use Rattle.words.specs.Definitions.{From, mostPicks, mostSections, mostVisits, firstLetter, lastLetter}
-use Rattle.words.specs.Definitions.{word, lengthsBack, Sections, done, next, Named}
-use Rattle.words.specs.Ranges.{between, between-true}
+use Rattle.words.specs.Definitions.{From, mostPicks, mostSections}
+use Rattle.words.specs.Definitions.{word, stretch, prefix, lengthsBack, Sections, done, next, Named}
+use Rattle.words.specs.Cases.{clash}
 use Rattle.layout.specs.declared.Section.{Section}
 use Rattle.layout.specs.Record.{Folded, foldedOf, recordOf}
-use Rattle.layout.specs.Layout.{Every, none, Letter, total, Passes}
-use Rattle.layout.specs.Unfolding.{picksOf}
+use Rattle.layout.specs.Layout.{Every, none, more, Letter, total, Passes}
+use Rattle.layout.specs.Unfolding.{unfolded, picksOf}
 use Rattle.layout.specs.Yield.{sectionAfter, sectionsIn}
-use Rattle.layout.specs.Entries.{every-at, every-snoc}
+use Rattle.layout.specs.Entries.{every-at}
 use Rattle.layout.specs.ReadingLaws.{laid-law}
-use Rattle.layout.specs.WrittenLaws.{folded-count, written-law}
+use Rattle.layout.specs.UnfoldLaws.{unfold-law}
+use Rattle.layout.specs.WrittenLaws.{folded-count, every-stretch, written-law, back-law}
 use Rattle.layout.specs.YieldLaws.{yields-law, yields-none}
 use Rattle.promises.specs.Answers.{gave, Reply, reply, filled}
 use Rattle.promises.specs.Refusals.{unfoldRefusal}
-use Rattle.promises.specs.Book.{Book, Call, start, feed, ask, fold, book, blank}
-use Rattle.promises.specs.Book.{startTaken, feedTaken, fedRow, write, writeAll, bookOf}
+use Rattle.promises.specs.Lifts.{liftIn, liftedBy, Distinct}
+use Rattle.promises.specs.LiftLaws.{lifted-at}
+use Rattle.promises.specs.Book.{Book, ask, fold, blank, lifted, bookOf}
 use Rattle.promises.specs.Replies.{unfoldedTo, unfoldReply}
 use Rattle.promises.specs.Listed.{NoneMet, listed, sought}
 use Rattle.promises.specs.Says.{RecordSays, Says}
 use Rattle.promises.specs.Promises.{Reads}
 use Rattle.promises.specs.BookLaws.{unless-zero}
+use Rattle.promises.specs.WritingLaws.{held-fits}
 use Rattle.promises.specs.Runs.{started, calls, last}
 use Rattle.promises.specs.Demands.{Answered}
 use Rattle.promises.specs.ReadBack.{SectionsHold, ReadsBack, ReadBackHolds}
-use Rattle.promises.proofs.Keeping.{gave-accepted, said-is, list-is, whole}
+use Rattle.promises.proofs.Keeping.{gave-accepted, said-is, list-is, letters-of, whole}
 use Rattle.promises.proofs.Finding.{not-outside}
 use Rattle.promises.proofs.Answering.{answered}
 use Rattle.promises.proofs.Demand3.{one}
 
 pub sections : SectionsHold
 sections bytes = record { passes = λ p fs h. yields-law h; none = λ h at. yields-none bytes h at }
-
--- Every letter in the book is one
-
-letters-of : (b : Book) (cs : List Call) → Every Letter (b .row) → Every Letter (writeAll b cs .row)
-unfolding writeAll write
-letters-of b [] h = h
-letters-of b (start K ∷ cs) h = letters-of (write b (start K)) cs (go (startTaken K))
-  where
-    go : (t : Bool) → Every Letter (cond t (book K []) b .row)
-    go true = none
-    go false = h
-letters-of b (feed pick visits ∷ cs) h = letters-of (write b (feed pick visits)) cs (go (feedTaken b pick (length visits)) refl)
-  where
-    go : (t : Bool) → feedTaken b pick (length visits) ≡ t → Every Letter (cond t (book (b .K) (fedRow b pick)) b .row)
-    go true e = every-snoc h (between-true firstLetter lastLetter pick
-        (and-eq-true-iff (between firstLetter lastLetter pick) (leb mostVisits (length visits) && ltb (length (b .row)) mostPicks) .0 e .0))
-    go false e = h
-letters-of b (ask q ∷ cs) h = letters-of b cs h
 
 -- The record of a split
 
@@ -83,29 +66,82 @@ whole-read bytes list picks fs h l =
     ∙ unless-zero (unfoldRefusal (total fs) picks (length list)) list _
     (simp (eq-eqb (total fs) picks (h .adds), le-leb picks (length list) l))
 
-reads-back : (u : List ℕ) (i k : ℕ) (ends : List ℕ) → Every Letter u → length u ≤ mostPicks → i ≤ length u → From 1 mostSections k
-    → Named (word u) i k ends → ReadsBack u i k (recordOf (word u) i ends)
-reads-back u i k ends h n l m named =
+-- The lifts of what is unfolded
+
+module _ (f : ℕ → ℕ) where
+  map-take : (n : ℕ) (l : List ℕ) → map f (take n l) ≡ take n (map f l)
+  map-take zero l = refl
+  map-take (suc n) [] = refl
+  map-take (suc n) (x ∷ l) = ap (λ t. f x ∷ t) (map-take n l)
+
+  map-reverse : (l : List ℕ) → map f (reverse l) ≡ reverse (map f l)
+  map-reverse [] = refl
+  map-reverse (x ∷ l) =
+      ap (map f) (reverse-cons x l) ∙ map-append f (reverse l) (x ∷ []) ∙ ap (λ t. t ++ f x ∷ []) (map-reverse l) ∙ sym (reverse-cons (f x) (map f l))
+
+  map-unfolded : (len : ℕ) (half : List ℕ) → map f (unfolded (record { len = len; half = half })) ≡ unfolded (record { len = len; half = map f half })
+  unfolding unfolded
+  map-unfolded len half =
+      map-append f half (reverse (take (len / 2) half))
+      ∙ ap (λ t. map f half ++ t) (map-reverse (take (len / 2) half) ∙ ap reverse (map-take (len / 2) half))
+
+module _ (lifts row : List ℕ) where
+  lifted-stretch : (a len : ℕ) → a + len ≤ length row → stretch (word (liftedBy lifts row)) a len ≡ liftedBy lifts (stretch (word row) a len)
+  lifted-stretch a zero l = refl
+  lifted-stretch a (suc len) l = ap₂ (λ x t. x ∷ t) (lifted-at lifts row a (omega arith)) (lifted-stretch (suc a) len (omega arith))
+
+  -- the sections of the letters, unfolded and lifted, are those of the lifts, unfolded
+  lifted-picks : {x : ℕ → ℕ} {n a : ℕ} {ends : List ℕ} → n ≤ length row → Sections x n a ends
+      → (a ≤ n) × (liftedBy lifts (picksOf (foldedOf (word row) a ends)) ≡ picksOf (foldedOf (word (liftedBy lifts row)) a ends))
+  unfolding picksOf
+  lifted-picks l done = (omega arith, refl)
+  lifted-picks l (next {a = a} {e = e} {ends = ends} s t) =
+      let r = lifted-picks l t in
+      let h = (e - a + 1) / 2 in
+      let half = lifted-stretch a h (omega (arith, s .some, r .0)) in (
+        omega (arith, s .some, r .0),
+        map-append (liftIn lifts) (unfolded (record { len = e - a; half = stretch (word row) a h })) (picksOf (foldedOf (word row) e ends))
+            ∙ ap₂ (λ x y. x ++ y)
+            (map-unfolded (liftIn lifts) (e - a) (stretch (word row) a h) ∙ ap (λ t. unfolded (record { len = e - a; half = t })) (sym half)) (r .1),
+      )
+
+-- where no two letters lift alike, the lifts of a row tell its letters
+letters-same : (lifts : List ℕ) → Distinct lifts → (u v : List ℕ) → Every Letter u → Every Letter v → liftedBy lifts u ≡ liftedBy lifts v → u ≡ v
+letters-same lifts f [] [] a b e = refl
+letters-same lifts f [] (y ∷ v) a b e = clash cc
+letters-same lifts f (x ∷ u) [] a b e = clash cc
+letters-same lifts f (x ∷ u) (y ∷ v) (more p ps) (more q qs) e =
+    let heads : liftIn lifts x ≡ liftIn lifts y = cc in
+    let tails : liftedBy lifts u ≡ liftedBy lifts v = cc in
+    ap₂ (λ a l. a ∷ l) (f x y p q heads) (letters-same lifts f u v ps qs tails)
+
+reads-back : (lifts row : List ℕ) (i k : ℕ) (ends : List ℕ) → Every Letter row → length row ≤ mostPicks → i ≤ length row → From 1 mostSections k
+    → Named (word (liftedBy lifts row)) i k ends → ReadsBack lifts row i k (recordOf (word row) i ends)
+reads-back lifts row i k ends h n l m named =
     let s = named .is in
     let some : 0 < i = splits-some (s .is) .1 (omega (arith, m .low, s .count)) in
-    let r = written-law {w = word u} (record { low = some; high = omega arith }) m (λ j z. every-at h j (omega arith)) s in
-    let fs = foldedOf (word u) 0 ends in
-    let c : length fs ≡ k = folded-count (word u) 0 ends ∙ s .count in
+    let r = written-law {w = word row} (record { low = some; high = omega arith }) m (λ j z. every-at h j (omega arith)) s in
+    let fs = foldedOf (word row) 0 ends in
+    let c : length fs ≡ k = folded-count (word row) 0 ends ∙ s .count in
+    let alike : liftedBy lifts (picksOf fs) ≡ prefix (word (liftedBy lifts row)) i = lifted-picks lifts row l (s .is) .1 ∙ back-law s in
     record {
       ends = ends;
       named = named;
-      unfolds = λ list a after x p.
-          let q = p ∙ whole-read (recordOf (word u) i ends) list i fs (r .0) x in
-          (said-is q, list-is q ∙ ap (λ l. filled l list) (r .1));
+      picks = picksOf fs;
+      unfolds = λ list a after x p. let q = p ∙ whole-read (recordOf (word row) i ends) list i fs r x in (said-is q, list-is q);
+      lettered = unfold-law r .lettered;
+      alike = alike;
+      same = λ f. letters-same lifts f (picksOf fs) (prefix (word row) i) (unfold-law r .lettered)
+          (every-stretch (word row) 0 i (λ j x y. every-at h j (omega arith))) (alike ∙ lifted-stretch lifts row 0 i (omega arith));
       lengths = λ steps x.
-          ap (map (λ (s : Section). s .length)) (yields-law (r .0) .order steps (omega arith)) ∙ lengths-in (word u) 0 0 ends;
+          ap (map (λ (s : Section). s .length)) (yields-law r .order steps (omega arith)) ∙ lengths-in (word row) 0 0 ends;
     }
 
 -- What an accepted fold wrote
 
 said-back : (b : Book) (i k : ℕ) (output : List ℕ) (q : Reply) (count : ℕ) → Every Letter (b .row) → length (b .row) ≤ mostPicks
-    → i ≤ length (b .row) → From 1 mostSections k → RecordSays (b .row) i k output q → q .said ≡ gave (count ∷ [])
-    → ReadsBack (b .row) i k (take count (q .list))
+    → i ≤ length (b .row) → From 1 mostSections k → RecordSays (b .row) (lifted b) i k output q → q .said ≡ gave (count ∷ [])
+    → ReadsBack (b .lifts) (b .row) i k (take count (q .list))
 said-back b i k output q count h l m n s e =
     let bytes = recordOf (word (b .row)) i (s .ends) in
     let c : length bytes ≡ count = one (sym (ap (λ x. x .said) (s .is)) ∙ e) in
@@ -113,7 +149,7 @@ said-back b i k output q count h l m n s e =
     sym (take-append-seam bytes (drop (length bytes) output))
     ∙ ap (λ x. take (length bytes) (x .list)) (sym (s .is))
     ∙ ap (λ x. take x (q .list)) c in
-    subst (ReadsBack (b .row) i k) t (reads-back (b .row) i k (s .ends) h l m n (s .named))
+    subst (ReadsBack (b .lifts) (b .row) i k) t (reads-back (b .lifts) (b .row) i k (s .ends) h l m n (s .named))
 
 pub read-back : ReadBackHolds
 unfolding listed sought NoneMet Says
@@ -123,7 +159,7 @@ read-back d K r ms o = record { each = each }
     inside n i f = elim (decLt n i) [ yes l ↦ absurd (f l) | no l ↦ omega arith ]
 
     each : (i k : ℕ) (output : List ℕ) (q : Reply) (count : ℕ) → Reads (last d (started K r ∷ ms)) (fold i k output) q
-        → q .said ≡ gave (count ∷ []) → ReadsBack (bookOf (calls (started K r ∷ ms)) .row) i k (take count (q .list))
+        → q .said ≡ gave (count ∷ []) → ReadsBack (bookOf (calls (started K r ∷ ms)) .lifts) (bookOf (calls (started K r ∷ ms)) .row) i k (take count (q .list))
     each i k output q count p e =
         let cs = calls (started K r ∷ ms) in
         let b = bookOf cs in
@@ -131,5 +167,5 @@ read-back d K r ms o = record { each = each }
         let a = subst (Answered b (ask (fold i k output))) (sym (p .meaning b h)) (answered b (ask (fold i k output))) in
         let fine = a .accepts .0 (gave-accepted e) in
         let c = not-outside 1 (b .K) k (fine .1 .0) in
-        said-back b i k output q count (letters-of blank cs none) (h .arrays .fits) (inside (length (b .row)) i (fine .1 .1 .0))
+        said-back b i k output q count (letters-of blank cs none) (held-fits h) (inside (length (b .row)) i (fine .1 .1 .0))
         (record { low = c .0; high = omega (arith, c .1, h .most) }) (a .says fine) e

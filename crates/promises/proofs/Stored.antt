@@ -7,18 +7,25 @@ use lib.ListN.{length}
 use Rattle.promises.specs.declared.Draft.{Draft}
 use Rattle.promises.specs.declared.Started.{Started}
 use Rattle.promises.specs.declared.Fed.{Fed}
-use Rattle.promises.specs.Refusals.{startRefusal, feedRefusal}
-use Rattle.promises.specs.Book.{Book, book, blank, startTaken, feedTaken, write, writeAll}
-use Rattle.promises.specs.BookLaws.{Case, taken, left, start-cases}
-use Rattle.promises.specs.State.{withPick, withPicks, fresh, stateOfBook}
+use Rattle.promises.specs.declared.Loaded.{Loaded}
+use Rattle.promises.specs.Refusals.{startRefusal, feedRefusal, loadRefusal}
+use Rattle.promises.specs.Lifts.{fixedLifts}
+use Rattle.promises.specs.LiftLaws.{lifted-length}
+use Rattle.promises.specs.Book.{Book, book, blank, fedRow, startTaken, feedTaken, loadTaken, write, writeAll, bookOf}
+use Rattle.promises.specs.BookLaws.{Case, taken, left, start-cases, empty-taken}
+use Rattle.promises.specs.State.{emptyUnder, withLifts, withPick, withPicks, stateOfBook}
 use Rattle.promises.specs.Holds.{Holds}
-use Rattle.promises.specs.Promises.{StartPromise, FeedPromise}
-use Rattle.promises.specs.Runs.{Made, started, fed, asked, callOf, calls, Meets, leaves, Run, last}
+use Rattle.promises.specs.WritingLaws.{feed-number, feed-case, load-number, load-case}
+use Rattle.promises.specs.Promises.{StartPromise, FeedPromise, LoadPromise}
+use Rattle.promises.specs.Runs.{Made, started, fed, loaded, asked, callOf, calls, Meets, leaves, Run, last}
 use Rattle.promises.specs.Demands.{WordsHold, StateOfBook}
-use Rattle.promises.proofs.Keeping.{feed-taken, keep, promise, opened, opens, whole}
+use Rattle.promises.proofs.Keeping.{keep, promise, opened, opens, whole}
 
 pub words-hold : WordsHold
-words-hold d K r ms o = let g = whole o .arrays .gathers in record { rows = g .rows; gathered = g .all }
+words-hold d K r ms o =
+    let b = bookOf (calls (started K r ∷ ms)) in
+    let g = rw (lifted-length (b .lifts) (b .row)) at (whole o .arrays .gathers) in
+    record { rows = g .rows; gathered = g .all }
 
 -- one pick more at the end
 picks-more : (d : Draft) (picks : List ℕ) (pick : ℕ) → withPicks d (picks ++ pick ∷ []) ≡ withPick (withPicks d picks) pick
@@ -29,31 +36,41 @@ picks-more d (x ∷ picks) pick = picks-more (withPick d x) picks pick
 -- One call: d is the state of b
 
 module _ {d : Draft} {b : Book} (h : Holds d b) (e : d ≡ stateOfBook b) where
-  start-state : {K : ℕ} {r : Started} → StartPromise d K r → r .state ≡ stateOfBook (cond (startTaken K) (book K []) b)
+  start-state : {K : ℕ} {r : Started} → StartPromise d K r → r .state ≡ stateOfBook (cond (startTaken K) (book K fixedLifts []) b)
   unfolding withPicks
   start-state {K} {r} p = go (start-cases K)
     where
-      go : Case (startTaken K) (startRefusal K) → r .state ≡ stateOfBook (cond (startTaken K) (book K []) b)
+      go : Case (startTaken K) (startRefusal K) → r .state ≡ stateOfBook (cond (startTaken K) (book K fixedLifts []) b)
       go (taken t z) = rw t (p .begins z)
       go (left t z) = rw t (p .refuses z ∙ e)
 
   feed-state : {pick : ℕ} {before : List ℕ} {r : Fed} {after : List ℕ} → FeedPromise d pick before r after
-      → r .state ≡ stateOfBook (cond (feedTaken b pick (length before)) (book (b .K) (b .row ++ pick ∷ [])) b)
-  feed-state {pick} {before} {r} p = go (feed-taken h pick (length before))
+      → r .state ≡ stateOfBook (cond (feedTaken b pick (length before)) (book (b .K) (b .lifts) (fedRow b pick)) b)
+  feed-state {pick} {before} {r} p = go (feed-case h pick (length before))
     where
-      number : feedRefusal (d .n) (d .k) pick (length before) ≡ feedRefusal (length (b .row)) (b .K) pick (length before)
-      number = rw (h .picks, h .sections)
-
       go : Case (feedTaken b pick (length before)) (feedRefusal (length (b .row)) (b .K) pick (length before))
-          → r .state ≡ stateOfBook (cond (feedTaken b pick (length before)) (book (b .K) (b .row ++ pick ∷ [])) b)
+          → r .state ≡ stateOfBook (cond (feedTaken b pick (length before)) (book (b .K) (b .lifts) (fedRow b pick)) b)
       go (taken t z) =
-          rw t (p .computes (number ∙ z) .stores ∙ ap (λ s. withPick s pick) e ∙ sym (picks-more (fresh (b .K)) (b .row) pick))
-      go (left t z) = rw t (p .refuses (λ q. z (sym number ∙ q)) .1 ∙ e)
+          rw t (p .computes (feed-number h pick (length before) ∙ z) .stores ∙ ap (λ s. withPick s pick) e ∙ sym (picks-more (emptyUnder (b .K) (b .lifts)) (b .row) pick))
+      go (left t z) = rw t (p .refuses (λ q. z (sym (feed-number h pick (length before)) ∙ q)) .1 ∙ e)
+
+  -- a load is taken on an empty row
+  load-state : {lifts : List ℕ} {r : Loaded} → LoadPromise d lifts r → r .state ≡ stateOfBook (cond (loadTaken b lifts) (book (b .K) lifts (b .row)) b)
+  unfolding withPicks
+  load-state {lifts} {r} p = go (load-case h lifts)
+    where
+      go : Case (loadTaken b lifts) (loadRefusal (length (b .row)) (b .K) lifts)
+          → r .state ≡ stateOfBook (cond (loadTaken b lifts) (book (b .K) lifts (b .row)) b)
+      go (taken t z) =
+          let none = empty-taken b lifts t in
+          rw (t, none) (p .computes (load-number h lifts ∙ z) .1 ∙ ap (λ s. withLifts s lifts) (rw none at e))
+      go (left t z) = rw t (p .refuses (λ q. z (sym (load-number h lifts) ∙ q)) .1 ∙ e)
 
   call-state : (m : Made) → Meets d m → leaves d m ≡ stateOfBook (write b (callOf m))
   unfolding Meets leaves callOf write
   call-state (started K r) p = start-state p
   call-state (fed pick before r after) p = feed-state p
+  call-state (loaded lifts r) p = load-state p
   call-state (asked q r) p = e
 
 -- The calls, one after the other

@@ -8,6 +8,8 @@ use Rattle.promises.specs.declared.StartAnswer.{StartAnswer}
 use Rattle.promises.specs.declared.StartAnswer.the-variants.{Begun, Refused as StartRefused}
 use Rattle.promises.specs.declared.FeedAnswer.{FeedAnswer}
 use Rattle.promises.specs.declared.FeedAnswer.the-variants.{Taken, Refused as FeedRefused}
+use Rattle.promises.specs.declared.LoadAnswer.{LoadAnswer}
+use Rattle.promises.specs.declared.LoadAnswer.the-variants.{InForce, Refused as LoadRefused, RefusedAt as LoadRefusedAt}
 use Rattle.promises.specs.declared.MaskAnswer.{MaskAnswer}
 use Rattle.promises.specs.declared.MaskAnswer.the-variants.{Mask, Refused as MaskRefused}
 use Rattle.promises.specs.declared.RadiusAnswer.{RadiusAnswer}
@@ -57,6 +59,11 @@ startSays (StartRefused number) = refused number
 abbrev pub feedSays : FeedAnswer → Said
 feedSays (Taken mask count) = gave (mask ∷ count ∷ [])
 feedSays (FeedRefused number) = refused number
+
+abbrev pub loadSays : LoadAnswer → Said
+loadSays InForce = gave []
+loadSays (LoadRefused number) = refused number
+loadSays (LoadRefusedAt number place) = refusedAt number place
 
 abbrev pub maskSays : MaskAnswer → Said
 maskSays (Mask mask) = gave (mask ∷ [])

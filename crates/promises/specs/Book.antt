@@ -2,10 +2,11 @@
 use mathlib.Core.Bool.{Bool, cond, _&&_}
 use mathlib.Core.List.{List, [], _∷_, _++_}
 use Prim.Native.Nat.{ℕ}
-use lib.Dec.{leb, ltb}
+use lib.Dec.{eqb, leb, ltb}
 use lib.ListN.{length}
 use Rattle.words.specs.Definitions.{mostPicks, mostSections, mostVisits, firstLetter, lastLetter}
 use Rattle.words.specs.Ranges.{between}
+use Rattle.promises.specs.Lifts.{fixedLifts, tableSize, liftedBy, noneZero}
 
 -- A query: a call that only reads the state, with its arguments; a list is lent as it stands. Places are in whole picks, centres in half
 -- picks.
@@ -16,31 +17,40 @@ pub data Query : Type 0 where
   radius : (c : ℕ) → Query
   next : (c : ℕ) → Query
   fold : (i k : ℕ) (output : List ℕ) → Query
+  lift : (letter : ℕ) → Query
 
 -- A call with its arguments, the state not among them
 pub data Call : Type 0 where
   start : (K : ℕ) → Call
   feed : (pick : ℕ) (visits : List ℕ) → Call
+  load : (lifts : List ℕ) → Call
   ask : (q : Query) → Call
 
--- the list as it was lent; [] where none is
+-- the list that is lent to be filled, as it was lent; [] where none is
 unfoldable pub lent : Call → List ℕ
 lent (start K) = []
 lent (feed pick visits) = visits
+lent (load lifts) = []
 lent (ask (split i k ends)) = ends
 lent (ask longest) = []
 lent (ask (mask i)) = []
 lent (ask (radius c)) = []
 lent (ask (next c)) = []
 lent (ask (fold i k output)) = output
+lent (ask (lift letter)) = []
 
--- "It holds K and a row of letters."
+-- "It holds K and a row of letters"; "the plain book holds 26 lifts too"
 pub record Book : Type 0 where
   pub K : ℕ
+  pub lifts : List ℕ
   pub row : List ℕ
 
-abbrev pub book : ℕ → List ℕ → Book
-book K row = record { K = K; row = row }
+abbrev pub book : (K : ℕ) (lifts row : List ℕ) → Book
+book K lifts row = record { K = K; lifts = lifts; row = row }
+
+-- what is read of the row: "two picks are the same when their lifts are equal"
+abbrev pub lifted : Book → List ℕ
+lifted b = liftedBy (b .lifts) (b .row)
 
 -- "A start with K from 1 to 8"
 abbrev pub startTaken : ℕ → Bool
@@ -54,10 +64,20 @@ feedTaken b pick entries = between firstLetter lastLetter pick && (leb mostVisit
 abbrev pub fedRow : Book → (pick : ℕ) → List ℕ
 fedRow b pick = b .row ++ pick ∷ []
 
--- "writes K and clears the row"; "adds its pick at the end"; "Every other call leaves the book alone."
+-- "an accepted feed's endings are read by the lifts the book held at that feed"
+abbrev pub fedLifted : Book → (pick : ℕ) → List ℕ
+fedLifted b pick = liftedBy (b .lifts) (fedRow b pick)
+
+-- "a load of 26 bytes, none of them 0, while its row is empty"
+abbrev pub loadTaken : Book → (lifts : List ℕ) → Bool
+loadTaken b lifts = eqb (length lifts) tableSize && (noneZero lifts && eqb (length (b .row)) 0)
+
+-- "writes K and clears the row", and takes "the fixed ones at each accepted start"; "adds its pick at the end"; takes the lifts of a load;
+-- "Every other call leaves the book alone."
 unfoldable pub write : Book → Call → Book
-write b (start K) = cond (startTaken K) (book K []) b
-write b (feed pick visits) = cond (feedTaken b pick (length visits)) (book (b .K) (fedRow b pick)) b
+write b (start K) = cond (startTaken K) (book K fixedLifts []) b
+write b (feed pick visits) = cond (feedTaken b pick (length visits)) (book (b .K) (b .lifts) (fedRow b pick)) b
+write b (load lifts) = cond (loadTaken b lifts) (book (b .K) lifts (b .row)) b
 write b (ask q) = b
 
 unfoldable pub writeAll : Book → List Call → Book
@@ -65,9 +85,9 @@ unfolding write
 writeAll b [] = b
 writeAll b (c ∷ cs) = writeAll (write b c) cs
 
--- nothing stands in the book before the first call
+-- before the first call no K and no letter stands in the book
 abbrev pub blank : Book
-blank = book 0 []
+blank = book 0 fixedLifts []
 
 abbrev pub bookOf : List Call → Book
 bookOf cs = writeAll blank cs

@@ -1,19 +1,20 @@
 -- The order of tests and the book: a call has the number 0 exactly where the book takes it, and what it replies under a number.
 use mathlib.Core.Path.{_≡_, refl}
-use mathlib.Core.Bool.{Bool, true, false, _&&_}
-use mathlib.Core.Logic.{_≢_}
-use mathlib.Core.List.{List}
+use mathlib.Core.Bool.{Bool, true, false, cond, _&&_, and-eq-true-iff}
+use mathlib.Core.Logic.{_≢_, inl, inr}
+use mathlib.Core.List.{List, [], _∷_}
 use Prim.Native.Nat.{ℕ, zero, suc, _≤_}
 use native.Mathlib.Omega.{arith}
-use lib.Dec.{leb, ltb}
+use lib.Dec.{eqb, leb, ltb}
 use lib.ListN.{length}
-use borrow.Author.Tests.{le-leb}
+use borrow.Author.Tests.{le-leb, eqb-true}
 use Rattle.words.specs.Definitions.{mostPicks, mostSections, mostVisits, firstLetter, lastLetter}
 use Rattle.words.specs.Ranges.{between}
-use Rattle.promises.specs.Answers.{refused, Reply, reply}
-use Rattle.promises.specs.Refusals.{test, line7, startRefusal, feedRefusal}
-use Rattle.promises.specs.Book.{Book, startTaken, feedTaken}
-use Rattle.promises.specs.Replies.{unless}
+use Rattle.promises.specs.Answers.{refused, refusedAt, Under, Reply, reply}
+use Rattle.promises.specs.Refusals.{test, line7, startRefusal, feedRefusal, loadRefusal}
+use Rattle.promises.specs.Lifts.{tableSize, noneZero, firstZero}
+use Rattle.promises.specs.Book.{Book, Call, start, feed, load, ask, startTaken, feedTaken, loadTaken}
+use Rattle.promises.specs.Replies.{unless, placed}
 
 -- Whether the book takes a call, and the call's number
 
@@ -25,11 +26,11 @@ start-case : (t : Bool) → Case t (test t 1 0)
 start-case true = taken refl refl
 start-case false = left refl (λ e. omega arith)
 
-feed-case : (a b c : Bool) → Case (a && (b && c)) (test a 2 (test b 3 (test c 8 0)))
-feed-case true true true = taken refl refl
-feed-case true true false = left refl (λ e. omega arith)
-feed-case true false c = left refl (λ e. omega arith)
-feed-case false b c = left refl (λ e. omega arith)
+three-case : (a b c : Bool) (x y z : ℕ) → Case (a && (b && c)) (test a (suc x) (test b (suc y) (test c (suc z) 0)))
+three-case true true true x y z = taken refl refl
+three-case true true false x y z = left refl (λ e. omega arith)
+three-case true false c x y z = left refl (λ e. omega arith)
+three-case false b c x y z = left refl (λ e. omega arith)
 
 pub start-cases : (K : ℕ) → Case (startTaken K) (startRefusal K)
 unfolding startRefusal
@@ -44,7 +45,24 @@ pub feed-cases : (b : Book) (pick entries : ℕ) → length (b .row) ≤ mostPic
 unfolding feedRefusal
 feed-cases b pick entries x y z =
     rw (passes7 (length (b .row)) (b .K) _ x y z)
-    (feed-case (between firstLetter lastLetter pick) (leb mostVisits entries) (ltb (length (b .row)) mostPicks))
+    (three-case (between firstLetter lastLetter pick) (leb mostVisits entries) (ltb (length (b .row)) mostPicks) 1 2 7)
+
+pub load-cases : (b : Book) (lifts : List ℕ) → length (b .row) ≤ mostPicks → 1 ≤ b .K → b .K ≤ mostSections
+    → Case (loadTaken b lifts) (loadRefusal (length (b .row)) (b .K) lifts)
+unfolding loadRefusal
+load-cases b lifts x y z =
+    rw (passes7 (length (b .row)) (b .K) _ x y z)
+    (three-case (eqb (length lifts) tableSize) (noneZero lifts) (eqb (length (b .row)) 0) 13 14 15)
+
+pub none-left : (list : List ℕ) → length list ≡ 0 → list ≡ []
+none-left [] e = refl
+none-left (x ∷ list) e = absurd (omega arith)
+
+-- a load is taken while the row is empty
+pub empty-taken : (b : Book) (lifts : List ℕ) → loadTaken b lifts ≡ true → b .row ≡ []
+empty-taken b lifts t =
+    let r = and-eq-true-iff (eqb (length lifts) tableSize) (noneZero lifts && eqb (length (b .row)) 0) .0 t .1 in
+    none-left (b .row) (eqb-true _ _ (and-eq-true-iff (noneZero lifts) (eqb (length (b .row)) 0) .0 r .1))
 
 -- A reply under a number
 
@@ -62,3 +80,23 @@ pub unless-as : (number : ℕ) (list : List ℕ) (x y : Reply) → (number ≡ 0
 unfolding unless
 unless-as zero list x y f = f refl
 unless-as (suc number) list x y f = refl
+
+-- A place beside the number
+
+at-zero : (number place : ℕ) (b : Bool) → Under (cond b (refusedAt number place) (refused number)) number
+at-zero number place true = inr (place, refl)
+at-zero number place false = inl refl
+
+-- the number stays
+pub placed-under : (call : Call) (number : ℕ) (list : List ℕ) → Under (placed call (reply (refused number) list) .said) number
+placed-under (start K) number list = inl refl
+placed-under (feed pick visits) number list = inl refl
+placed-under (load lifts) number list = at-zero number (firstZero lifts) (eqb number 15)
+placed-under (ask q) number list = inl refl
+
+-- and so does the list
+pub placed-list : (call : Call) (r : Reply) → placed call r .list ≡ r .list
+placed-list (start K) r = refl
+placed-list (feed pick visits) r = refl
+placed-list (load lifts) r = refl
+placed-list (ask q) r = refl

@@ -11,16 +11,16 @@ use Rattle.models.specs.Stores.{at}
 use Rattle.promises.specs.declared.Draft.{Draft}
 use Rattle.promises.specs.declared.Started.{Started}
 use Rattle.promises.specs.declared.Fed.{Fed}
-use Rattle.promises.specs.declared.LiftAnswer.{LiftAnswer}
-use Rattle.promises.specs.Answers.{Said, gave, refused, Under, Reply, reply, filled, startSays, feedSays, liftSays}
-use Rattle.promises.specs.Lifts.{lift}
-use Rattle.promises.specs.Book.{Book, Call, ask, split, longest, mask, next, fold, blank, lent, startTaken, feedTaken, bookOf}
-use Rattle.promises.specs.Listed.{First, NoneMet, recordLonger, noSplit, noEnding, listed, sought, lines, showLines, liftLines}
+use Rattle.promises.specs.declared.Loaded.{Loaded}
+use Rattle.promises.specs.Answers.{Said, gave, refused, refusedAt, Under, Reply, reply, filled, startSays, feedSays, loadSays}
+use Rattle.promises.specs.Lifts.{liftIn, FirstZero}
+use Rattle.promises.specs.Book.{Book, Call, start, feed, load, ask, split, longest, mask, next, fold, lift, blank, lent, lifted, fedLifted, startTaken, feedTaken, loadTaken, bookOf}
+use Rattle.promises.specs.Listed.{First, NoneMet, recordLonger, noSplit, noEnding, listed, sought, lines, showLines}
 use Rattle.promises.specs.Says.{Yes, Says, PartOf}
 use Rattle.promises.specs.State.{stateOfBook}
-use Rattle.promises.specs.Promises.{Reads, ShowPromise, ShowNumberPromise, LiftPromise}
+use Rattle.promises.specs.Promises.{Reads, ShowPromise, ShowNumberPromise}
 use Rattle.promises.specs.Replies.{replies}
-use Rattle.promises.specs.Runs.{Made, started, fed, callOf, calls, replyOf, Meets, leaves, Run, last}
+use Rattle.promises.specs.Runs.{Made, started, fed, loaded, callOf, calls, replyOf, Meets, leaves, Run, last}
 
 -- A run that opens with an accepted start on the stored state d
 pub record Opened (d : Draft) (K : ℕ) (r : Started) (ms : List Made) : Type 0 where
@@ -31,6 +31,10 @@ pub record Opened (d : Draft) (K : ℕ) (r : Started) (ms : List Made) : Type 0 
 -- the book's row, and its K, after these calls
 abbrev pub rowOf : List Made → List ℕ
 rowOf ms = bookOf (calls ms) .row
+
+-- the row read by the lifts that the book holds then
+abbrev pub liftedOf : List Made → List ℕ
+liftedOf ms = lifted (bookOf (calls ms))
 
 abbrev pub sectionsOf : List Made → ℕ
 sectionsOf ms = bookOf (calls ms) .K
@@ -46,40 +50,51 @@ pub record FeedAmong (ms xs : List Made) (pick : ℕ) (before : List ℕ) (r : F
 
 -- Demand 1
 
--- the numbers of the lines that hang on the letters: 9 of a split, 10 of the next shorter ending, 9 and 5 of a record
+-- the numbers of the lines that hang on the picks: 9 of a split, 10 of the next shorter ending, 9 and 5 of a record
 abbrev pub soughtNumbers : Call → List ℕ
-soughtNumbers call = map (λ l. l .number) (sought [] call)
+soughtNumbers call = map (λ l. l .number) (sought [] [] call)
+
+-- "a place coming beside the number where one is named": of the numbers of a call on a state 15 has one, that of the first lift of 0
+abbrev pub PlaceOf : Call → (number place : ℕ) → Type 0
+PlaceOf (start K) number place = ⊥
+PlaceOf (feed pick visits) number place = ⊥
+PlaceOf (load lifts) number place = (number ≡ 15) × FirstZero lifts place
+PlaceOf (ask q) number place = ⊥
 
 -- for one call, on any state whatever
 pub record Demand1 (d : Draft) (m : Made) : Type 0 where
-  -- of the lines that need no letters, 1 to 4, 7, 8 and 13, the first that the call meets gives the number: "there 1 to 4 and 8 still hold",
-  -- and document 02's numbers for bad input "hold as 1 to 4 do"
-  pub refuses : (number : ℕ) → First (listed (d .n) (d .k) (callOf m)) number → replyOf m .said ≡ refused number
+  -- of the lines that need no picks, 1 to 4, 7, 8 and 13 to 16, the first that the call meets gives the number: "there 1 to 4 and 8 still
+  -- hold", and document 02's numbers for bad input "hold as 1 to 4 do"
+  pub refuses : (number : ℕ) → First (listed (d .n) (d .k) (callOf m)) number → Under (replyOf m .said) number
+  -- with the place that belongs to it, and with none where none does
+  pub places : (number place : ℕ) → (replyOf m .said ≡ refusedAt number place)
+      ↔ (First (listed (d .n) (d .k) (callOf m)) number × PlaceOf (callOf m) number place)
   -- "Each number is given only under its line": a call that meets none of these can be refused only by what is found
   pub otherwise : NoneMet (listed (d .n) (d .k) (callOf m)) → (number : ℕ) → Under (replyOf m .said) number
       → List·Memᴰ number (soughtNumbers (callOf m))
   -- "A refusal returns its number only; state and lent buffers keep every byte", whatever the number
   pub keeps : (number : ℕ) → Under (replyOf m .said) number → (replyOf m .list ≡ lent (callOf m)) × (leaves d m ≡ d)
 
--- the lines that need no letters are not met
+-- the lines that need no picks are not met
 abbrev pub NoneListed : Book → Call → Type 0
 NoneListed b call = NoneMet (listed (length (b .row)) (b .K) call)
 
 -- 9, 10 and 5, each by itself: exactly where no line before it is met, and it is
 pub record Late (b : Book) (call : Call) (r : Reply) : Type 0 where
   pub split9 : (i k : ℕ) (ends : List ℕ) → call ≡ ask (split i k ends)
-      → (r .said ≡ refused 9) ↔ (NoneListed b call × noSplit (b .row) i k .Met)
-  pub next10 : (c : ℕ) → call ≡ ask (next c) → (r .said ≡ refused 10) ↔ (NoneListed b call × noEnding (b .row) c .Met)
+      → (r .said ≡ refused 9) ↔ (NoneListed b call × noSplit (lifted b) i k .Met)
+  pub next10 : (c : ℕ) → call ≡ ask (next c) → (r .said ≡ refused 10) ↔ (NoneListed b call × noEnding (lifted b) c .Met)
   pub record9 : (i k : ℕ) (output : List ℕ) → call ≡ ask (fold i k output)
-      → (r .said ≡ refused 9) ↔ (NoneListed b call × noSplit (b .row) i k .Met)
+      → (r .said ≡ refused 9) ↔ (NoneListed b call × noSplit (lifted b) i k .Met)
   pub record5 : (i k : ℕ) (output : List ℕ) → call ≡ ask (fold i k output)
-      → (r .said ≡ refused 5) ↔ (NoneListed b call × recordLonger (b .row) i k output .Met)
+      → (r .said ≡ refused 5) ↔ (NoneListed b call × recordLonger (b .row) (lifted b) i k output .Met)
 
 -- for a call of a run, b being the book before it
 pub record Answered (b : Book) (call : Call) (r : Reply) : Type 0 where
   -- a call is refused under a number exactly where that is the first line that it meets, 9, 10 and 5 among them
-  pub refuses : (number : ℕ) → (r .said ≡ refused number) ↔ First (lines b call) number
-  pub keeps : (number : ℕ) → r .said ≡ refused number → r .list ≡ lent call
+  pub refuses : (number : ℕ) → Under (r .said) number ↔ First (lines b call) number
+  pub places : (number place : ℕ) → (r .said ≡ refusedAt number place) ↔ (First (lines b call) number × PlaceOf call number place)
+  pub keeps : (number : ℕ) → Under (r .said) number → r .list ≡ lent call
   -- "Every other call is accepted", and says what document 01 says
   pub accepts : Accepted (r .said) ↔ NoneMet (lines b call)
   pub says : NoneMet (lines b call) → Says b call r
@@ -117,25 +132,26 @@ pub record ShowRight (letters ends : List ℕ) (s : ℕ) (part : List ℕ) (numb
   pub accepts : (number ≡ 0) ↔ NoneMet (showLines letters ends s)
   pub gives : NoneMet (showLines letters ends s) → PartOf letters ends s part
 
--- lift: 2, else the lift
-pub record LiftRight (letter : ℕ) (said : Said) : Type 0 where
-  pub refuses : (x : ℕ) → (said ≡ refused x) ↔ First (liftLines letter) x
-  pub gives : NoneMet (liftLines letter) → said ≡ gave (lift letter ∷ [])
+-- lift, whatever is stored: 7, then 2, else the lift that is stored
+pub record LiftRight (d : Draft) (letter : ℕ) (said : Said) : Type 0 where
+  pub refuses : (x : ℕ) → (said ≡ refused x) ↔ First (listed (d .n) (d .k) (ask (lift letter))) x
+  pub gives : NoneMet (listed (d .n) (d .k) (ask (lift letter))) → said ≡ gave (liftIn (d .lifts) letter ∷ [])
 
 -- Demand 2
 
 pub record Demand2 (d : Draft) (ms : List Made) : Type 0 where
   -- for each prefix
   pub prefixes : (i : ℕ) (r : Reply) → i ≤ length (rowOf ms) → Reads (last d ms) (mask i) r
-      → (m : ℕ) × (r .said ≡ gave (m ∷ [])) × Yes (sectionsOf ms) (rowOf ms) i m
+      → (m : ℕ) × (r .said ≡ gave (m ∷ [])) × Yes (sectionsOf ms) (liftedOf ms) i m
   -- while a designer keys picks: after each pick
   pub feeds : (xs : List Made) (pick : ℕ) (before : List ℕ) (r : Fed) (after : List ℕ) → FeedAmong ms xs pick before r after
       → Accepted (feedSays (r .answer))
-      → (m c : ℕ) × (feedSays (r .answer) ≡ gave (m ∷ c ∷ [])) × Yes (sectionsOf xs) (rowOf xs ++ pick ∷ []) (length (rowOf xs) + 1) m
+      → (m c : ℕ) × (feedSays (r .answer) ≡ gave (m ∷ c ∷ []))
+      × Yes (sectionsOf xs) (fedLifted (bookOf (calls xs)) pick) (length (rowOf xs) + 1) m
 
--- Demand 3
+-- Demand 3: u are the lifts of the picks
 
--- a split of the first i of the letters u into k, on an ends list of k entries or more
+-- a split of the first i picks into k, on an ends list of k entries or more
 pub record SplitRight (u : List ℕ) (i k : ℕ) (before : List ℕ) (said : Said) (after : List ℕ) : Type 0 where
   -- "refused for want of one exactly when none exists"
   pub wants : (said ≡ refused 9) ↔ ((ends : List ℕ) → Split (word u) i k ends → ⊥)
@@ -154,7 +170,7 @@ pub record MovedRight (u : List ℕ) (said : Said) : Type 0 where
   pub exactly : moved ≡ 2 * length u - L
 
 -- "Each accepted feed among them visited exactly the non-empty leading endings of its prefix, longest first, their lengths being the
--- first c entries of its visit list, c the count given": u is the row with the pick, m its length; state is what the feed left
+-- first c entries of its visit list, c the count given": u has the pick, m is its length; state is what the feed left
 pub record VisitsRight (u before : List ℕ) (said : Said) (state : Draft) (after : List ℕ) : Type 0 where
   pub mask : ℕ
   pub c : ℕ
@@ -172,15 +188,18 @@ pub record VisitsRight (u before : List ℕ) (said : Said) (state : Draft) (afte
 pub record Demand3 (d : Draft) (ms : List Made) : Type 0 where
   pub splits : (i k : ℕ) (before : List ℕ) (r : Reply)
       → i ≤ length (rowOf ms) → 1 ≤ k → k ≤ sectionsOf ms → k ≤ length before
-      → Reads (last d ms) (split i k before) r → SplitRight (rowOf ms) i k before (r .said) (r .list)
-  pub moved : (r : Reply) → Reads (last d ms) longest r → MovedRight (rowOf ms) (r .said)
+      → Reads (last d ms) (split i k before) r → SplitRight (liftedOf ms) i k before (r .said) (r .list)
+  pub moved : (r : Reply) → Reads (last d ms) longest r → MovedRight (liftedOf ms) (r .said)
   pub visits : (xs : List Made) (pick : ℕ) (before : List ℕ) (r : Fed) (after : List ℕ) → FeedAmong ms xs pick before r after
       → Accepted (feedSays (r .answer))
-      → VisitsRight (rowOf xs ++ pick ∷ []) before (feedSays (r .answer)) (r .state) after
+      → VisitsRight (fedLifted (bookOf (calls xs)) pick) before (feedSays (r .answer)) (r .state) after
   -- "A start or a feed is accepted exactly when the book takes it."
   pub starts : (xs ys : List Made) (K : ℕ) (r : Started) → ms ≡ xs ++ started K r ∷ ys → Accepted (startSays (r .answer)) ↔ (startTaken K ≡ true)
   pub feeds : (xs : List Made) (pick : ℕ) (before : List ℕ) (r : Fed) (after : List ℕ) → FeedAmong ms xs pick before r after
       → Accepted (feedSays (r .answer)) ↔ (feedTaken (bookOf (calls xs)) pick (length before) ≡ true)
+  -- and so is a load
+  pub loads : (xs ys : List Made) (lifts : List ℕ) (r : Loaded) → ms ≡ xs ++ loaded lifts r ∷ ys
+      → Accepted (loadSays (r .answer)) ↔ (loadTaken (bookOf (calls xs)) lifts ≡ true)
   -- "no accepted feed makes that number smaller"
   pub onward : (xs : List Made) (pick : ℕ) (before : List ℕ) (r : Fed) (after : List ℕ) → FeedAmong ms xs pick before r after
       → Accepted (feedSays (r .answer))
@@ -191,9 +210,9 @@ pub record Demand3 (d : Draft) (ms : List Made) : Type 0 where
 
 -- "The row word of prefix i ..", "The gathered word at place i .. After every call all gathered words hold this."
 pub record WordsRight (d : Draft) (ms : List Made) : Type 0 where
-  pub rows : (i : ℕ) → i ≤ length (rowOf ms) → at (last d ms .rows) i ≡ rowWord (sectionsOf ms) (word (rowOf ms)) i
+  pub rows : (i : ℕ) → i ≤ length (rowOf ms) → at (last d ms .rows) i ≡ rowWord (sectionsOf ms) (word (liftedOf ms)) i
   pub gathered : (i : ℕ) → i ≤ length (rowOf ms)
-      → at (last d ms .gathered) i ≡ gatheredWord (sectionsOf ms) (word (rowOf ms)) (length (rowOf ms)) i
+      → at (last d ms .gathered) i ≡ gatheredWord (sectionsOf ms) (word (liftedOf ms)) (length (rowOf ms)) i
 
 -- Of every call on any state; and of every run that opens with an accepted start, each one claim about the whole list
 
@@ -205,6 +224,9 @@ NextHolds = (d : Draft) (c : ℕ) (r : Reply) → Reads d (next c) r → Accepte
 
 abbrev pub SplitHolds : Type 0
 SplitHolds = (d : Draft) (i k : ℕ) (before : List ℕ) (r : Reply) → Reads d (split i k before) r → Accepted (r .said) → EndsRight i k before r
+
+abbrev pub LiftHolds : Type 0
+LiftHolds = (d : Draft) (letter : ℕ) (r : Reply) → Reads d (lift letter) r → LiftRight d letter (r .said)
 
 abbrev pub OfEveryRun : (Draft → List Made → Type 0) → Type 0
 OfEveryRun P = (d : Draft) (K : ℕ) (r : Started) (ms : List Made) → Opened d K r ms → P d (started K r ∷ ms)
@@ -221,8 +243,8 @@ Demand3Holds = OfEveryRun Demand3
 abbrev pub WordsHold : Type 0
 WordsHold = OfEveryRun WordsRight
 
--- the state is a function of the book: the empty draft with the row's letters fed one after another. Whatever was stored before,
--- refused or asked between, or lent as a visit list counts for nothing
+-- the state is a function of the book: the empty draft under the book's lifts with the row's letters fed one after another. Whatever was
+-- stored before, refused or asked between, or lent as a visit list counts for nothing
 abbrev pub StateOfBook : Type 0
 StateOfBook = OfEveryRun (λ d ms. last d ms ≡ stateOfBook (bookOf (calls ms)))
 
@@ -235,6 +257,3 @@ Transcript = OfEveryRun (λ d ms. map replyOf ms ≡ replies blank (calls ms))
 abbrev pub ShowHolds : Type 0
 ShowHolds = (letters ends : List ℕ) (s : ℕ) (part : List ℕ) (number : ℕ) → ShowPromise letters ends s part → ShowNumberPromise letters ends s number
     → ShowRight letters ends s part number
-
-abbrev pub LiftHolds : Type 0
-LiftHolds = (letter : ℕ) (r : LiftAnswer) → LiftPromise letter r → LiftRight letter (liftSays r)

@@ -1,5 +1,5 @@
 -- The drafts marked P in document 01, with document 02's turn counts: one table, each row a draft, a question and the documents' answer.
--- All have K = 8.
+-- All have K = 8 and the fixed lifts.
 use mathlib.Core.Path.{_≡_}
 use mathlib.Core.List.{List, [], _∷_, map}
 use mathlib.Core.Option.{Option, some, none}
@@ -9,6 +9,7 @@ use lib.ListN.{length, take, drop, getD}
 use Rattle.words.specs.Definitions.{mostSections, mostVisits}
 use Rattle.text.specs.Definitions.{bytes}
 use Rattle.promises.specs.Answers.{gave, refused, Reply, reply, filled}
+use Rattle.promises.specs.Lifts.{fixedLifts}
 use Rattle.promises.specs.Book as calls
 use Rattle.promises.specs.Book.{Book, book, Call}
 use Rattle.promises.specs.Replies.{fedMask, replyTo}
@@ -63,11 +64,11 @@ table =
 
 -- the visits are those of the last pick: the book before it, and the pick
 abbrev pub bookFor : List ℕ → Question → Book
-bookFor u mask = book mostSections u
-bookFor u visits = book mostSections (take (length u - 1) u)
-bookFor u moved = book mostSections u
-bookFor u (splitIn k) = book mostSections u
-bookFor u (radiusAt c) = book mostSections u
+bookFor u mask = book mostSections fixedLifts u
+bookFor u visits = book mostSections fixedLifts (take (length u - 1) u)
+bookFor u moved = book mostSections fixedLifts u
+bookFor u (splitIn k) = book mostSections fixedLifts u
+bookFor u (radiusAt c) = book mostSections fixedLifts u
 
 abbrev pub lastPick : List ℕ → ℕ
 lastPick u = getD u (length u - 1) 0

@@ -2,10 +2,11 @@
 use mathlib.Core.Path.{_≡_}
 use Prim.Native.Nat.{_≤_}
 use lib.ListN.{length}
-use Rattle.words.specs.Definitions.{mostSections}
+use Rattle.words.specs.Definitions.{mostPicks, mostSections, word}
+use Rattle.words.specs.Prefixes.{Agree}
 use Rattle.models.specs.Core.{Holds as ArraysHold}
 use Rattle.promises.specs.declared.Draft.{Draft}
-use Rattle.promises.specs.Book.{Book}
+use Rattle.promises.specs.Book.{Book, lifted}
 use Rattle.promises.specs.State.{arraysOf}
 
 pub record Holds (d : Draft) (b : Book) : Type 0 where
@@ -13,5 +14,8 @@ pub record Holds (d : Draft) (b : Book) : Type 0 where
   pub most : b .K ≤ mostSections
   pub sections : d .k ≡ b .K
   pub picks : d .n ≡ length (b .row)
-  -- every row word and every gathered word by its definition, the longest ending's centre, the iterator's lists
-  pub arrays : ArraysHold (b .K) (b .row) (arraysOf d)
+  pub lifts : d .lifts ≡ b .lifts
+  pub room : length (d .letters) ≡ mostPicks
+  pub letters : Agree (word (d .letters)) (word (b .row)) (length (b .row))
+  -- by the lifts: the codes, every row word and every gathered word by its definition, the longest ending's centre, the iterator's lists
+  pub arrays : ArraysHold (b .K) (lifted b) (arraysOf d)

@@ -1,30 +1,37 @@
 -- How the calls on lent parts meet their promises: refused under their number, or accepted with what was read.
-use mathlib.Core.Path.{_≡_, refl, sym, ap, ap₂, _∙_}
-use mathlib.Core.Bool.{Bool, true, false, true≢false, false≢true}
-use mathlib.Core.List.{List, [], _∷_}
+use mathlib.Core.Path.{_≡_, refl, sym, ap, ap₂, subst, _∙_}
+use mathlib.Core.Bool.{Bool, true, false, _&&_, true≢false, false≢true}
+use mathlib.Core.List.{List, [], _∷_, _++_, append-nil}
 use mathlib.Core.Option.{Option, some, none}
 use Prim.Native.Nat.{ℕ, _≤_, _<_}
 use native.Mathlib.Omega.{arith}
-use lib.ListN.{length, take}
-use lib.Seq.{take-at}
+use lib.Dec.{leb, eqb}
+use lib.ListN.{length, take, drop-of-length-le}
+use lib.Seq.{take-at, sets}
+use borrow.Author.Tests.{ne-eqb}
 use Rattle.cells.specs.declared.Numbers.{Numbers}
-use Rattle.words.specs.Definitions.{word, turnCount}
+use Rattle.words.specs.Definitions.{mostPicks, mostSections, word, turnCount}
+use Rattle.words.specs.Ranges.{between}
 use Rattle.models.specs.Stores.{at, sets-front}
 use Rattle.models.specs.Iterator.{longestOf}
 use Rattle.models.specs.Splitting.{splitBy}
 use Rattle.models.specs.SplitCode.{Stores, split-ends}
 use Rattle.promises.specs.declared.Draft.{Draft}
-use Rattle.promises.specs.declared.LiftAnswer.the-variants.{Lift, Refused as LiftRefused}
-use Rattle.promises.specs.Answers.{gave, refused, Reply, reply, filled}
-use Rattle.promises.specs.Refusals.{liftRefusal}
+use Rattle.promises.specs.declared.LoadAnswer.{LoadAnswer}
+use Rattle.promises.specs.declared.LoadAnswer.the-variants.{InForce, Refused as LoadRefused, RefusedAt as LoadRefusedAt}
+use Rattle.promises.specs.Answers.{gave, refused, refusedAt, Reply, reply, filled, loadSays}
+use Rattle.promises.specs.Refusals.{test, line7, line14, line15, line16, loadRefusal}
 use Rattle.layout.specs.Record.{recordOf}
-use Rattle.promises.specs.Lifts.{lift}
+use Rattle.promises.specs.Lifts.{tableSize, noneZero, firstZero}
 use Rattle.promises.specs.Book.{Query, ask, split, fold, lent}
-use Rattle.promises.specs.Replies.{unless, orNoSplit, orTooLong, gives, splitReply, recordReply, refusalOf, liftReply}
-use Rattle.promises.specs.State.{numbersOf}
-use Rattle.promises.specs.Promises.{splitHeld, foundIn, computedTo, LiftPromise}
-use Rattle.promises.specs.Lent.{ReadsOn}
+use Rattle.promises.specs.Replies.{unless, orNoSplit, orTooLong, splitReply, recordReply, refusalOf, atZero}
+use Rattle.promises.specs.State.{numbersOf, withLifts}
+use Rattle.promises.specs.Promises.{splitHeld, foundIn, computedTo, LoadPromise}
+use Rattle.promises.specs.Lent.{loadedAs, LoadsOn, ReadsOn}
+use Rattle.promises.specs.LiftLaws.{zero-within, zero-behind}
+use Rattle.promises.specs.RefusalLaws.{orElse, or-first, table-fits, load-order}
 use Rattle.promises.specs.BookLaws.{unless-zero, unless-not}
+use Rattle.promises.specs.WritingLaws.{load-refused, load-taken}
 use Rattle.promises.specs.ReadingLaws.{reads}
 
 -- the number that the tests gave
@@ -122,13 +129,62 @@ module _ (rows R : List ℕ) (n s k i : ℕ) (before : List ℕ) (b : Bool) (aft
         let f = ends-found t room in
         q ∙ ap (λ x. orTooLong (recordOf w i x) output) (p ∙ f .front) ∙ sym (ap (λ o. recordReply w i o output) (f .is))
 
--- Lift
+-- Load: 7 and 14, then the place of the first lift of 0, then 16
 
-module _ (letter number : ℕ) (e : number ≡ liftRefusal letter) where
-  pub lift-refused : 0 < number → LiftPromise letter (LiftRefused number)
-  unfolding liftReply
-  lift-refused l = refused-by number e l [] _
+-- a number that is not 15 has no place
+plain-number : (lifts : List ℕ) (number : ℕ) → (number ≡ 15 → ⊥) → refused number ≡ atZero lifts (refused number)
+plain-number lifts number f = simp (ne-eqb number 15 f)
 
-  pub lift-given : number ≤ 0 → (byte : ℕ) → byte ≡ lift letter → LiftPromise letter (Lift byte)
-  unfolding liftReply
-  lift-given l byte q = ap (λ x. gives (x ∷ [])) q ∙ accepted-by number e l [] _
+table-small : (s t : Bool) → orElse (test s 7 0) (test t 14 0) ≤ 14
+table-small true true = omega arith
+table-small true false = omega arith
+table-small false t = omega arith
+
+sets-all : (xs l : List ℕ) → length xs ≡ length l → sets l 0 xs ≡ xs
+sets-all xs l e = sets-front xs l (omega arith) ∙ ap (λ t. xs ++ t) (drop-of-length-le l {i = length xs} (omega arith)) ∙ append-nil xs
+
+last-small : (t : Bool) → 0 < test t 16 0 → test t 16 0 ≡ 16
+last-small true l = absurd (omega arith)
+last-small false l = refl
+
+module _ (held : Numbers) (before lifts : List ℕ) (number : ℕ) (e : number ≡ orElse (line7 (held .n) (held .k) 0) (line14 (length lifts) 0)) where
+  -- on every state with these parts
+  number-of : (d : Draft) → numbersOf d ≡ held → orElse number (orElse (line15 lifts 0) (line16 (held .n) 0)) ≡ loadRefusal (d .n) (d .k) lifts
+  number-of d h = load-order (held .n) (held .k) number lifts e ∙ ap (λ x. loadRefusal (x .n) (x .k) lifts) (sym h)
+
+  -- refused under a number of the order, what is lent is as it was
+  refused-under : (x : ℕ) (answer : LoadAnswer) → x ≡ orElse number (orElse (line15 lifts 0) (line16 (held .n) 0)) → (x ≡ 0 → ⊥)
+      → loadSays answer ≡ atZero lifts (refused x) → LoadsOn held before lifts answer before
+  refused-under x answer o f s d h p =
+      subst (λ l. LoadPromise d lifts (loadedAs answer (withLifts d l))) p (load-refused d lifts x (o ∙ number-of d h) answer s f)
+
+  pub table-refused : 0 < number → LoadsOn held before lifts (LoadRefused number) before
+  table-refused l =
+      let small = table-small (leb (held .n) mostPicks && between 1 mostSections (held .k)) (eqb (length lifts) tableSize) in
+      refused-under number (LoadRefused number) (or-first number _ (λ q. omega arith)) (λ q. omega arith)
+      (plain-number lifts number (λ q. omega (arith, e, small)))
+
+  module _ (clear : number ≤ 0) (place : ℕ) (z : place ≡ firstZero lifts) where
+    pub zero-refused : place < length lifts → LoadsOn held before lifts (LoadRefusedAt 15 place) before
+    zero-refused l =
+        let n : number ≡ 0 = omega arith in
+        let b : noneZero lifts ≡ false = zero-within lifts (omega (arith, z)) in
+        refused-under 15 (LoadRefusedAt 15 place) (rw (n, b)) (λ q. omega arith) (ap (refusedAt 15) z)
+
+    module _ (behind : length lifts ≤ place) (last : ℕ) (s : last ≡ line16 (held .n) 0) where
+      passed-number : last ≡ orElse number (orElse (line15 lifts 0) (line16 (held .n) 0))
+      passed-number =
+          let n : number ≡ 0 = omega arith in
+          let b : noneZero lifts ≡ true = zero-behind lifts (omega (arith, z)) in
+          rw (n, b) s
+
+      pub begun-refused : 0 < last → LoadsOn held before lifts (LoadRefused last) before
+      begun-refused l =
+          let sixteen = last-small (eqb (held .n) 0) (omega (arith, s)) in
+          refused-under last (LoadRefused last) passed-number (λ q. omega arith) (plain-number lifts last (λ q. omega (arith, s, sixteen)))
+
+      -- stored over a table of as many
+      pub table-taken : last ≤ 0 → length before ≡ tableSize → (after : List ℕ) → after ≡ sets before 0 lifts → LoadsOn held before lifts InForce after
+      table-taken l size after q d h p =
+          let same : length lifts ≡ tableSize = table-fits (held .n) (held .k) (length lifts) (sym e ∙ omega arith) in
+          rw (q ∙ sets-all lifts before (omega arith)) (load-taken d lifts last (passed-number ∙ number-of d h) (omega arith))

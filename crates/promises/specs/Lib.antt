@@ -14,7 +14,9 @@ pub mod Drafts
 pub mod Runs
 pub mod Demands
 pub mod ReadBack
+pub mod Alike
 -- laws
+pub mod LiftLaws
 pub mod RefusalLaws
 pub mod BookLaws
 pub mod WritingLaws

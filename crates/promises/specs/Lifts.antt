@@ -1,14 +1,16 @@
--- The lifts: "Each letter lifts two of eight harnesses; harness h is bit h-1 of a lift byte."
-use mathlib.Core.Path.{_≡_, refl}
+-- The lifts, fixed and loaded: "Each letter lifts two of eight harnesses; harness h is bit h-1 of a lift byte."
+use mathlib.Core.Path.{_≡_, refl, sym}
 use mathlib.Core.Bool.{Bool, true, false, not, _&&_, false≢true, and-eq-true-iff}
 use mathlib.Core.Logic.{_≢_}
 use mathlib.Core.List.{List, [], _∷_, map}
 use Prim.Native.Nat.{ℕ, zero, suc, _+_, _-_, _^_, _≤_, _<_}
 use native.Mathlib.Omega.{arith}
+use native.Mathlib.Decide.{decLt}
 use lib.Dec.{ltb, eqb}
 use lib.ListN.{length, getD}
 use borrow.Author.Tests.{ltb-true, eqb-true, eqb-false}
 use Rattle.words.specs.Definitions.{firstLetter, lastLetter, bit}
+use Rattle.layout.specs.Layout.{Letter}
 
 -- a pair of harnesses
 pub record Pair : Type 0 where
@@ -32,15 +34,46 @@ pairs =
 abbrev pub liftByte : Pair → ℕ
 liftByte p = 2 ^ (p .low - 1) + 2 ^ (p .high - 1)
 
--- the fixed table of 26 lifts
-abbrev pub lifts : List ℕ
-lifts = map liftByte pairs
+-- "The board holds these 26 lifts as a fixed table."
+abbrev pub fixedLifts : List ℕ
+fixedLifts = map liftByte pairs
+
+-- Any table (document 02, 2.5: "A mill may load 26 lift bytes in place of the fixed table")
+
+abbrev pub tableSize : ℕ
+tableSize = 26
 
 -- the lift of a letter A to Z
-abbrev pub lift : ℕ → ℕ
-lift letter = getD lifts (letter - firstLetter) 0
+abbrev pub liftIn : (lifts : List ℕ) (letter : ℕ) → ℕ
+liftIn lifts letter = getD lifts (letter - firstLetter) 0
 
--- The table is tested once over all entries: each lift has exactly two of the eight bits, and no two lifts are the same
+-- "two picks are the same when their lifts are equal": a row of letters is read as its lifts
+abbrev pub liftedBy : (lifts row : List ℕ) → List ℕ
+liftedBy lifts row = map (liftIn lifts) row
+
+-- whether "none of them 0"
+abbrev pub noneZero : (lifts : List ℕ) → Bool
+noneZero [] = true
+noneZero (zero ∷ l) = false
+noneZero (suc x ∷ l) = noneZero l
+
+-- "the first one's place from 0"; the length where none is 0
+abbrev pub firstZero : (lifts : List ℕ) → ℕ
+firstZero [] = 0
+firstZero (zero ∷ l) = 0
+firstZero (suc x ∷ l) = suc (firstZero l)
+
+-- the first 0 stands there
+pub record FirstZero (lifts : List ℕ) (place : ℕ) : Type 0 where
+  pub within : place < length lifts
+  pub zero : getD lifts place 0 ≡ 0
+  pub before : (j : ℕ) → j < place → getD lifts j 0 ≢ 0
+
+-- no two letters lift alike
+abbrev pub Distinct : (lifts : List ℕ) → Type 0
+Distinct lifts = (x y : ℕ) → Letter x → Letter y → liftIn lifts x ≡ liftIn lifts y → x ≡ y
+
+-- The fixed table is tested once over all entries: each lift has exactly two of the eight bits, and no two lifts are the same
 
 abbrev pub bitsSet : ℕ → ℕ
 bitsSet x = bit x 0 + bit x 1 + bit x 2 + bit x 3 + bit x 4 + bit x 5 + bit x 6 + bit x 7
@@ -60,7 +93,7 @@ unfolding every differs
 distinct [] = true
 distinct (x ∷ l) = every (differs x) l && distinct l
 
-tested : (every two-bits lifts && distinct lifts) ≡ true
+tested : (every two-bits fixedLifts && distinct fixedLifts) ≡ true
 unfolding every two-bits distinct differs
 tested = refl
 
@@ -87,13 +120,20 @@ distinct-at (x ∷ l) e i zero h m = absurd (omega arith)
 distinct-at (x ∷ l) e zero (suc j) h m = differ x (getD l j 0) (every-at (differs x) l (and-eq-true-iff (every (differs x) l) (distinct l) .0 e .0) j (omega arith))
 distinct-at (x ∷ l) e (suc i) (suc j) h m = distinct-at l (and-eq-true-iff (every (differs x) l) (distinct l) .0 e .1) i j (omega arith) (omega arith)
 
-pub lift-two : (letter : ℕ) → firstLetter ≤ letter → letter ≤ lastLetter → (lift letter < 256) × (bitsSet (lift letter) ≡ 2)
+pub lift-two : (letter : ℕ) → firstLetter ≤ letter → letter ≤ lastLetter → (liftIn fixedLifts letter < 256) × (bitsSet (liftIn fixedLifts letter) ≡ 2)
 unfolding two-bits
 lift-two letter a b =
-    let t = and-eq-true-iff (every two-bits lifts) (distinct lifts) .0 tested .0 in
-    let r = and-eq-true-iff (ltb (lift letter) 256) (eqb (bitsSet (lift letter)) 2) .0 (every-at two-bits lifts t (letter - firstLetter) (omega arith)) in
+    let x = liftIn fixedLifts letter in
+    let t = and-eq-true-iff (every two-bits fixedLifts) (distinct fixedLifts) .0 tested .0 in
+    let r = and-eq-true-iff (ltb x 256) (eqb (bitsSet x) 2) .0 (every-at two-bits fixedLifts t (letter - firstLetter) (omega arith)) in
     (ltb-true _ _ (r .0), eqb-true _ _ (r .1))
 
-pub lifts-differ : (x y : ℕ) → firstLetter ≤ x → x < y → y ≤ lastLetter → lift x ≢ lift y
+lifts-differ : (x y : ℕ) → firstLetter ≤ x → x < y → y ≤ lastLetter → liftIn fixedLifts x ≢ liftIn fixedLifts y
 lifts-differ x y a b c =
-    distinct-at lifts (and-eq-true-iff (every two-bits lifts) (distinct lifts) .0 tested .1) (x - firstLetter) (y - firstLetter) (omega arith) (omega arith)
+    distinct-at fixedLifts (and-eq-true-iff (every two-bits fixedLifts) (distinct fixedLifts) .0 tested .1) (x - firstLetter) (y - firstLetter) (omega arith) (omega arith)
+
+pub fixed-distinct : Distinct fixedLifts
+fixed-distinct x y a b e = elim (decLt x y) [
+  | yes l ↦ absurd (lifts-differ x y (a .low) l (b .high) e)
+  | no l ↦ elim (decLt y x) [ yes m ↦ absurd (lifts-differ y x (b .low) m (a .high) (sym e)) | no m ↦ omega arith ]
+]

@@ -1,6 +1,6 @@
 -- Document 01's two lists of refusals as propositions, with document 02's numbers: each line under its words, and for each call the lines
 -- that it can meet, in the order in which they are tested: 7 first, then the input numbers in rising order but for 5, with 13 in the place
--- of 3, then 8, 9 or 10, then 5.
+-- of 3, then 8, 9 or 10, then 5; a load's are 7, 14, 15, 16.
 use mathlib.Core.Path.{_≡_}
 use mathlib.Core.Logic.{_≢_, _⊎_}
 use mathlib.Core.List.{List, [], _∷_, _++_}
@@ -9,7 +9,8 @@ use lib.ListN.{length}
 use Rattle.words.specs.Definitions.{mostPicks, mostSections, mostVisits, firstLetter, lastLetter, word, centre, Ending, Split, Named, Rising}
 use Rattle.layout.specs.Record.{Folded, recordOf}
 use Rattle.layout.specs.Layout.{Laid, Layout, total}
-use Rattle.promises.specs.Book.{Book, Call, start, feed, ask, split, longest, mask, radius, next, fold}
+use Rattle.promises.specs.Lifts.{tableSize, FirstZero}
+use Rattle.promises.specs.Book.{Book, Call, start, feed, load, ask, split, longest, mask, radius, next, fold, lift, lifted}
 
 -- a line's number, and what it is to meet it
 pub record Line : Type 1 where
@@ -57,9 +58,9 @@ centreOutside n c = line 4 (Outside 1 (2 * n + 1) c)
 abbrev pub noSuchEnd : (ends : List ℕ) (s : ℕ) → Line
 noSuchEnd ends s = line 4 (Outside 1 (length ends) s)
 
--- 5. "Record longer than the lent output": the record is that of the split named
-abbrev pub recordLonger : (u : List ℕ) (i k : ℕ) (output : List ℕ) → Line
-recordLonger u i k output = line 5 ((ends : List ℕ) × Named (word u) i k ends × (length output < length (recordOf (word u) i ends)))
+-- 5. "Record longer than the lent output": the record has the row's letters, and its split is the one named of u
+abbrev pub recordLonger : (row u : List ℕ) (i k : ℕ) (output : List ℕ) → Line
+recordLonger row u i k output = line 5 ((ends : List ℕ) × Named (word u) i k ends × (length output < length (recordOf (word row) i ends)))
 
 -- document 02, "a list too short is 5": it has fewer entries than the record has picks
 abbrev pub listShorter : (bytes list : List ℕ) → Line
@@ -81,6 +82,14 @@ lengthsDiffer bytes = line 12 ((picks : ℕ) × (fs : List Folded) × Laid bytes
 abbrev pub shortEnds : (k entries : ℕ) → Line
 shortEnds k entries = line 13 (entries < k)
 
+-- 14. document 02, "not 26 bytes"
+abbrev pub noTable : (bytes : ℕ) → Line
+noTable bytes = line 14 (bytes ≢ tableSize)
+
+-- 15. document 02, "a lift of 0": it has a place
+abbrev pub zeroLift : (lifts : List ℕ) → Line
+zeroLift lifts = line 15 ((place : ℕ) × FirstZero lifts place)
+
 -- Refused because of the state
 
 -- 7. "Stored n above 2,048 or stored K outside 1 to 8"
@@ -99,40 +108,45 @@ noSplit u i k = line 9 ((ends : List ℕ) → Split (word u) i k ends → ⊥)
 abbrev pub noEnding : (u : List ℕ) (c : ℕ) → Line
 noEnding u c = line 10 ((len : ℕ) → 0 < len → Ending (word u) (length u) len → centre (length u) len ≡ c → ⊥)
 
+-- 16. document 02, "the draft is not empty"
+abbrev pub begun : (n : ℕ) → Line
+begun n = line 16 (n ≢ 0)
+
 -- The lines that a call can meet
 
--- by its arguments and the stored n and K: 7, 1, 2, 3, 13, 4, 8. "Start doesn't look at it": at 7
+-- by its arguments and the stored n and K: 7, 1, 2, 3, 13, 4, 8; 7, 14, 15, 16. "Start doesn't look at it": at 7
 unfoldable pub listed : (n K : ℕ) → Call → List Line
 listed n K (start k) = outsideSections mostSections k ∷ []
 listed n K (feed pick visits) = noDraft n K ∷ noLetter pick ∷ shortVisits (length visits) ∷ full n ∷ []
+listed n K (load lifts) = noDraft n K ∷ noTable (length lifts) ∷ zeroLift lifts ∷ begun n ∷ []
 listed n K (ask (split i k ends)) = noDraft n K ∷ outsideSections K k ∷ shortEnds k (length ends) ∷ prefixAbove n i ∷ []
 listed n K (ask longest) = noDraft n K ∷ []
 listed n K (ask (mask i)) = noDraft n K ∷ prefixAbove n i ∷ []
 listed n K (ask (radius c)) = noDraft n K ∷ centreOutside n c ∷ []
 listed n K (ask (next c)) = noDraft n K ∷ centreOutside n c ∷ []
 listed n K (ask (fold i k output)) = noDraft n K ∷ outsideSections K k ∷ prefixAbove n i ∷ []
+listed n K (ask (lift letter)) = noDraft n K ∷ noLetter letter ∷ []
 
--- and by the letters u: 9, 10, 5
-unfoldable pub sought : (u : List ℕ) → Call → List Line
-sought u (start k) = []
-sought u (feed pick visits) = []
-sought u (ask (split i k ends)) = noSplit u i k ∷ []
-sought u (ask longest) = []
-sought u (ask (mask i)) = []
-sought u (ask (radius c)) = []
-sought u (ask (next c)) = noEnding u c ∷ []
-sought u (ask (fold i k output)) = noSplit u i k ∷ recordLonger u i k output ∷ []
+-- and by the picks, row being their letters and u their lifts: 9, 10, 5
+unfoldable pub sought : (row u : List ℕ) → Call → List Line
+sought row u (start k) = []
+sought row u (feed pick visits) = []
+sought row u (load lifts) = []
+sought row u (ask (split i k ends)) = noSplit u i k ∷ []
+sought row u (ask longest) = []
+sought row u (ask (mask i)) = []
+sought row u (ask (radius c)) = []
+sought row u (ask (next c)) = noEnding u c ∷ []
+sought row u (ask (fold i k output)) = noSplit u i k ∷ recordLonger row u i k output ∷ []
+sought row u (ask (lift letter)) = []
 
 -- all of them, on a draft with what stands in the book
 abbrev pub lines : Book → Call → List Line
-lines b call = listed (length (b .row)) (b .K) call ++ sought (b .row) call
+lines b call = listed (length (b .row)) (b .K) call ++ sought (b .row) (lifted b) call
 
--- show, lift and unfold are given no state
+-- show and unfold are given no state
 abbrev pub showLines : (letters ends : List ℕ) (s : ℕ) → List Line
 showLines letters ends s = noSuchEnd ends s ∷ endsNotRising letters ends ∷ []
-
-abbrev pub liftLines : (letter : ℕ) → List Line
-liftLines letter = noLetter letter ∷ []
 
 -- 11, 12, and 5 last
 abbrev pub unfoldLines : (bytes list : List ℕ) → List Line

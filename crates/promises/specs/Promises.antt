@@ -17,16 +17,17 @@ use Rattle.models.specs.Splitting.{splitBy}
 use Rattle.promises.specs.declared.Draft.{Draft}
 use Rattle.promises.specs.declared.Started.{Started}
 use Rattle.promises.specs.declared.Fed.{Fed}
-use Rattle.promises.specs.declared.LiftAnswer.{LiftAnswer}
+use Rattle.promises.specs.declared.Loaded.{Loaded}
 use Rattle.promises.specs.declared.UnfoldAnswer.{UnfoldAnswer}
-use Rattle.promises.specs.Answers.{Said, gave, refused, Reply, reply, startSays, feedSays, liftSays, unfoldSays}
-use Rattle.promises.specs.Refusals.{startRefusal, feedRefusal, showRefusal}
-use Rattle.promises.specs.Book.{Book, write, Query, start, feed, ask, split, longest, mask, radius, next, fold, lent}
+use Rattle.promises.specs.Answers.{Said, gave, refused, Reply, reply, startSays, feedSays, loadSays, unfoldSays}
+use Rattle.promises.specs.Refusals.{startRefusal, feedRefusal, loadRefusal, showRefusal}
+use Rattle.promises.specs.Lifts.{liftIn}
+use Rattle.promises.specs.Book.{Book, write, Query, start, feed, load, ask, split, longest, mask, radius, next, fold, lift, lent}
 use Rattle.layout.specs.declared.Found.{Found}
 use Rattle.layout.specs.Record.{recordOf}
 use Rattle.layout.specs.Yield.{yieldAt}
-use Rattle.promises.specs.Replies.{unless, orNoSplit, orNoEnding, orTooLong, gives, splitReply, recordReply, refusalOf, replyTo, shown, liftReply, unfoldReply}
-use Rattle.promises.specs.State.{fresh, arraysOf, withPick}
+use Rattle.promises.specs.Replies.{unless, orNoSplit, orNoEnding, orTooLong, gives, splitReply, recordReply, refusalOf, atZero, replyTo, shown, unfoldReply}
+use Rattle.promises.specs.State.{fresh, arraysOf, withLifts, codeIn, withPick}
 use Rattle.promises.specs.Holds.{Holds}
 
 -- a row word's mask, in eight bits
@@ -62,7 +63,20 @@ pub record FeedPromise (d : Draft) (pick : ℕ) (before : List ℕ) (r : Fed) (a
   pub refuses : feedRefusal (d .n) (d .k) pick (length before) ≢ 0
       → (feedSays (r .answer) ≡ refused (feedRefusal (d .n) (d .k) pick (length before))) × (r .state ≡ d) × (after ≡ before)
   pub computes : feedRefusal (d .n) (d .k) pick (length before) ≡ 0
-      → FeedComputes d pick before (append (d .k) (d .n) pick (arraysOf d) before) (feedSays (r .answer)) (r .state) after
+      → FeedComputes d pick before (append (d .k) (d .n) (codeIn d pick) (arraysOf d) before) (feedSays (r .answer)) (r .state) after
+
+-- Load
+
+pub record Loads (b : Book) (lifts : List ℕ) (said : Said) (state : Draft) : Type 0 where
+  pub replies : reply said [] ≡ replyTo b (load lifts)
+  pub holds : Holds state (write b (load lifts))
+
+pub record LoadPromise (d : Draft) (lifts : List ℕ) (r : Loaded) : Type 0 where
+  pub meaning : (b : Book) → Holds d b → Loads b lifts (loadSays (r .answer)) (r .state)
+  -- "A refused table leaves the former in force"
+  pub refuses : loadRefusal (d .n) (d .k) lifts ≢ 0
+      → (loadSays (r .answer) ≡ atZero lifts (refused (loadRefusal (d .n) (d .k) lifts))) × (r .state ≡ d)
+  pub computes : loadRefusal (d .n) (d .k) lifts ≡ 0 → (loadSays (r .answer) ≡ gave []) × (r .state ≡ withLifts d lifts)
 
 -- The calls that only read
 
@@ -83,6 +97,7 @@ foundIn d (mask i) = gives (maskByte (at (d .rows) i) ∷ [])
 foundIn d (radius c) = gives (radiusOf (d .radius) (d .n) (longestOf (d .n) (d .longest .0)) c ∷ [])
 foundIn d (next c) = reply (orNoEnding (nextHeld d c)) []
 foundIn d (fold i k output) = recordReply (word (d .letters)) i (splitHeld d k i) output
+foundIn d (lift letter) = gives (liftIn (d .lifts) letter ∷ [])
 
 unfoldable pub computedTo : Draft → Query → Reply
 unfolding unless refusalOf lent foundIn
@@ -102,9 +117,6 @@ ShowPromise letters ends s part = part ≡ shown letters ends s
 -- the companion: "0 for an accepted show"
 abbrev pub ShowNumberPromise : (letters ends : List ℕ) (s number : ℕ) → Type 0
 ShowNumberPromise letters ends s number = number ≡ showRefusal letters ends s
-
-abbrev pub LiftPromise : (letter : ℕ) (r : LiftAnswer) → Type 0
-LiftPromise letter r = reply (liftSays r) [] ≡ liftReply letter
 
 -- the record's bytes; the list before and after
 abbrev pub UnfoldPromise : (bytes before : List ℕ) (r : UnfoldAnswer) (after : List ℕ) → Type 0

@@ -1,4 +1,4 @@
--- Reading records back (document 02, 2.1), as statements. Their proofs are in proofs/.
+-- Reading records back (document 02, 2.1 and 2.5), as statements. Their proofs are in proofs/.
 use mathlib.Core.Path.{_≡_}
 use mathlib.Core.Logic.{_↔_}
 use mathlib.Core.List.{List, [], _∷_, map, reverse}
@@ -7,16 +7,17 @@ use lib.ListN.{length, take}
 use Rattle.words.specs.Definitions.{word, prefix, lengthsBack, Named}
 use Rattle.layout.specs.declared.Section.{Section}
 use Rattle.layout.specs.Record.{Folded}
-use Rattle.layout.specs.Layout.{Layout, BreaksAt, Passes}
+use Rattle.layout.specs.Layout.{Every, Letter, Layout, BreaksAt, Passes}
 use Rattle.layout.specs.Unfolding.{picksOf, Unfolds}
 use Rattle.layout.specs.Yield.{nothingAt, yieldAt, walk, Yields}
 use Rattle.promises.specs.declared.Draft.{Draft}
 use Rattle.promises.specs.declared.UnfoldAnswer.{UnfoldAnswer}
 use Rattle.promises.specs.Answers.{Said, gave, refusedAt, Under, Reply, filled, unfoldSays}
-use Rattle.promises.specs.Book.{fold}
+use Rattle.promises.specs.Lifts.{liftedBy, Distinct}
+use Rattle.promises.specs.Book.{fold, bookOf}
 use Rattle.promises.specs.Listed.{First, NoneMet, unfoldLines}
 use Rattle.promises.specs.Promises.{Reads, UnfoldPromise}
-use Rattle.promises.specs.Runs.{Made, last}
+use Rattle.promises.specs.Runs.{Made, calls, last}
 use Rattle.promises.specs.Demands.{Accepted, rowOf, OfEveryRun}
 
 -- Unfolding
@@ -63,20 +64,26 @@ SectionsHold = (bytes : List ℕ) → SectionsRight bytes
 
 -- Records that the board wrote
 
--- of prefix i of the letters u in k sections
-pub record ReadsBack (u : List ℕ) (i k : ℕ) (bytes : List ℕ) : Type 0 where
+-- of prefix i of the row in k sections, under these lifts
+pub record ReadsBack (lifts row : List ℕ) (i k : ℕ) (bytes : List ℕ) : Type 0 where
   pub ends : List ℕ
-  pub named : Named (word u) i k ends
-  -- "A record written from a draft's prefix unfolds to that prefix."
+  pub named : Named (word (liftedBy lifts row)) i k ends
+  -- what it unfolds to
+  pub picks : List ℕ
   pub unfolds : (before : List ℕ) (r : UnfoldAnswer) (after : List ℕ) → i ≤ length before → UnfoldPromise bytes before r after
-      → (unfoldSays r ≡ gave (i ∷ [])) × (after ≡ filled (prefix (word u) i) before)
+      → (unfoldSays r ≡ gave (i ∷ [])) × (after ≡ filled picks before)
+  -- "A folded record unfolds to a draft with the same lifts, its letters possibly others."
+  pub lettered : Every Letter picks
+  pub alike : liftedBy lifts picks ≡ prefix (word (liftedBy lifts row)) i
+  -- "A record written from a draft's prefix unfolds to that prefix", where no two letters lift alike
+  pub same : Distinct lifts → picks ≡ prefix (word row) i
   -- and its reader yields sections with the split's lengths
   pub lengths : (steps : ℕ) → k < steps → map (λ (s : Section). s .length) (walk bytes steps 0) ≡ reverse (lengthsBack 0 ends)
 
 -- each fold that is accepted after a run, the row being the book's
 pub record FoldsReadBack (d : Draft) (ms : List Made) : Type 0 where
   pub each : (i k : ℕ) (output : List ℕ) (r : Reply) (count : ℕ) → Reads (last d ms) (fold i k output) r → r .said ≡ gave (count ∷ [])
-      → ReadsBack (rowOf ms) i k (take count (r .list))
+      → ReadsBack (bookOf (calls ms) .lifts) (rowOf ms) i k (take count (r .list))
 
 abbrev pub ReadBackHolds : Type 0
 ReadBackHolds = OfEveryRun FoldsReadBack

@@ -1,17 +1,18 @@
 -- What a call's number 0 says of its arguments.
-use mathlib.Core.Path.{_≡_, refl, ap, _∙_}
+use mathlib.Core.Path.{_≡_, refl, sym, ap, _∙_}
 use mathlib.Core.Bool.{Bool, true, false, _&&_, decide, decide-iff, and-eq-true-iff}
 use mathlib.Core.List.{List}
 use Prim.Native.Nat.{ℕ, zero, suc, _+_, _*_, _≤_, _<_}
 use native.Mathlib.Omega.{arith}
 use native.Mathlib.Decide.{decLe}
-use lib.Dec.{leb, ltb}
+use lib.Dec.{eqb, leb, ltb}
 use lib.ListN.{length}
-use borrow.Author.Tests.{leb-true, ltb-true, le-leb, lt-leb, le-ltb, lt-ltb}
-use Rattle.words.specs.Definitions.{mostPicks, mostSections, mostVisits, firstLetter, lastLetter, Rising}
+use borrow.Author.Tests.{leb-true, ltb-true, le-leb, lt-leb, le-ltb, lt-ltb, eqb-true, eq-eqb, ne-eqb}
+use Rattle.words.specs.Definitions.{mostPicks, mostSections, mostVisits, firstLetter, lastLetter, From, Rising}
 use Rattle.words.specs.Computed.{rising?}
 use Rattle.words.specs.Ranges.{between, between-true}
-use Rattle.promises.specs.Refusals.{test, line1, line2, line3, line4, line6, line7, line8, line13, startRefusal, feedRefusal, maskRefusal, centreRefusal, longestRefusal, splitRefusal, recordRefusal, showRefusal, liftRefusal}
+use Rattle.promises.specs.Lifts.{tableSize, noneZero}
+use Rattle.promises.specs.Refusals.{test, line1, line2, line3, line4, line6, line7, line8, line13, line14, line15, line16, startRefusal, feedRefusal, loadRefusal, maskRefusal, centreRefusal, longestRefusal, splitRefusal, recordRefusal, liftRefusal, showRefusal}
 
 test-zero : (t : Bool) (number after : ℕ) → 0 < number → test t number after ≡ 0 → (t ≡ true) × (after ≡ 0)
 test-zero true number after l e = (refl, e)
@@ -34,19 +35,20 @@ pub start-fits : (K : ℕ) → startRefusal K ≡ 0 → (1 ≤ K) × (K ≤ most
 unfolding startRefusal
 start-fits K e = let c = between-true 1 mostSections K (test-zero _ 1 0 (omega arith) e .0) in (c .low, c .high)
 
-pub record FeedFits (n K entries : ℕ) : Type 0 where
+pub record FeedFits (n K pick entries : ℕ) : Type 0 where
   pub state : Passed n K
+  pub letter : From firstLetter lastLetter pick
   pub room : n < mostPicks
   pub enough : mostVisits ≤ entries
 
-pub feed-fits : (n K pick entries : ℕ) → feedRefusal n K pick entries ≡ 0 → FeedFits n K entries
+pub feed-fits : (n K pick entries : ℕ) → feedRefusal n K pick entries ≡ 0 → FeedFits n K pick entries
 unfolding feedRefusal
 feed-fits n K pick entries e =
     let a = passed n K _ e in
     let b = test-zero (between firstLetter lastLetter pick) 2 (line3 entries (line8 n 0)) (omega arith) (a .1) in
     let c = test-zero (leb mostVisits entries) 3 (line8 n 0) (omega arith) (b .1) in
     let f = test-zero (ltb n mostPicks) 8 0 (omega arith) (c .1) in
-    record { state = a .0; room = ltb-true _ _ (f .0); enough = leb-true _ _ (c .0) }
+    record { state = a .0; letter = between-true firstLetter lastLetter pick (b .0); room = ltb-true _ _ (f .0); enough = leb-true _ _ (c .0) }
 
 pub mask-fits : (n K i : ℕ) → maskRefusal n K i ≡ 0 → i ≤ n
 unfolding maskRefusal
@@ -64,9 +66,9 @@ pub longest-passed : (n K : ℕ) → longestRefusal n K ≡ 0 → Passed n K
 unfolding longestRefusal
 longest-passed n K e = passed n K _ e .0
 
-pub lift-fits : (letter : ℕ) → liftRefusal letter ≡ 0 → (firstLetter ≤ letter) × (letter ≤ lastLetter)
+pub lift-fits : (n K letter : ℕ) → liftRefusal n K letter ≡ 0 → From firstLetter lastLetter letter
 unfolding liftRefusal
-lift-fits letter e = let c = between-true firstLetter lastLetter letter (test-zero _ 2 0 (omega arith) e .0) in (c .low, c .high)
+lift-fits n K letter e = between-true firstLetter lastLetter letter (test-zero _ 2 0 (omega arith) (passed n K _ e .1) .0)
 
 pub show-fits : (letters ends : List ℕ) (s : ℕ) → showRefusal letters ends s ≡ 0 → (1 ≤ s) × (s ≤ length ends) × Rising (length letters) 0 ends
 unfolding showRefusal
@@ -110,6 +112,10 @@ or-else : (t : Bool) (number after : ℕ) → orElse (test t (suc number) 0) aft
 or-else true number after = refl
 or-else false number after = refl
 
+two-tests : (s t : Bool) (x y after : ℕ) → orElse (test s (suc x) (test t (suc y) 0)) after ≡ test s (suc x) (test t (suc y) after)
+two-tests true t x y after = or-else t y after
+two-tests false t x y after = refl
+
 pub feed-order : (n K pick entries : ℕ)
     → orElse (line7 n K 0) (orElse (line2 pick 0) (orElse (line3 entries 0) (line8 n 0))) ≡ feedRefusal n K pick entries
 unfolding feedRefusal
@@ -140,6 +146,24 @@ pub record-order : (n K i k : ℕ) → orElse (line7 n K 0) (orElse (line1 K k 0
 unfolding recordRefusal
 record-order n K i k = or-else (leb n mostPicks && between 1 mostSections K) 6 _ ∙ ap (line7 n K) (or-else (between 1 K k) 0 _)
 
+pub lift-order : (n K letter : ℕ) → orElse (line7 n K 0) (line2 letter 0) ≡ liftRefusal n K letter
+unfolding liftRefusal
+lift-order n K letter = or-else (leb n mostPicks && between 1 mostSections K) 6 _
+
+pub table-fits : (n K bytes : ℕ) → orElse (line7 n K 0) (line14 bytes 0) ≡ 0 → bytes ≡ tableSize
+table-fits n K bytes e =
+    let a = passed n K _ (sym (or-else (leb n mostPicks && between 1 mostSections K) 6 (line14 bytes 0)) ∙ e) in
+    eqb-true bytes tableSize (test-zero (eqb bytes tableSize) 14 0 (omega arith) (a .1) .0)
+
+-- 7 and 14; then 15, which has a place, and 16
+pub load-order : (n K number : ℕ) (lifts : List ℕ) → number ≡ orElse (line7 n K 0) (line14 (length lifts) 0)
+    → orElse number (orElse (line15 lifts 0) (line16 n 0)) ≡ loadRefusal n K lifts
+unfolding loadRefusal
+load-order n K number lifts e =
+    ap (λ x. orElse x (orElse (line15 lifts 0) (line16 n 0))) (e ∙ or-else (leb n mostPicks && between 1 mostSections K) 6 _)
+    ∙ two-tests (leb n mostPicks && between 1 mostSections K) (eqb (length lifts) tableSize) 6 13 _
+    ∙ ap (λ x. line7 n K (line14 (length lifts) x)) (or-else (noneZero lifts) 14 _)
+
 pub show-order : (letters ends : List ℕ) (s : ℕ) → orElse (line4 1 (length ends) s 0) (line6 letters ends 0) ≡ showRefusal letters ends s
 unfolding showRefusal
 show-order letters ends s = or-else (between 1 (length ends) s) 3 _
@@ -169,6 +193,13 @@ module _ (least x number : ℕ) where
 
   pub enough : least ≤ x → Number (leb least x) number 0
   enough l = simp (le-leb least x l)
+
+module _ (size x number : ℕ) where
+  pub unequal : (x ≡ size → ⊥) → Number (eqb x size) number number
+  unequal f = simp (ne-eqb x size f)
+
+  pub equal : x ≡ size → Number (eqb x size) number 0
+  equal e = simp (eq-eqb x size e)
 
 pub full : (n : ℕ) → mostPicks ≤ n → Number (ltb n mostPicks) 8 8
 full n l = simp (le-ltb n mostPicks l)

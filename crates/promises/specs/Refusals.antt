@@ -1,6 +1,7 @@
 -- Document 01's two lists of refusals, with document 02's numbers, and for each call the order in which it tests them: 7 first, then
--- the input numbers in rising order but for 5, with 13 in the place of 3, then 8, 9 or 10, then 5. A call's number is that of the first
--- test that fails, 0 where none does. Numbers 9, 10, a record's 5, and 11 with its place hang on what is found: they are in Replies.antt.
+-- the input numbers in rising order but for 5, with 13 in the place of 3, then 8, 9 or 10, then 5; a load's are 7, 14, 15, 16. A call's
+-- number is that of the first test that fails, 0 where none does. Numbers 9, 10, a record's 5, and 11 with its place hang on what is found:
+-- they are in Replies.antt, and so is the place of 15.
 use mathlib.Core.Bool.{Bool, true, false, _&&_, decide}
 use mathlib.Core.List.{List}
 use Prim.Native.Nat.{ℕ, _+_, _*_}
@@ -9,6 +10,7 @@ use lib.ListN.{length}
 use Rattle.words.specs.Definitions.{mostPicks, mostSections, mostVisits, firstLetter, lastLetter}
 use Rattle.words.specs.Computed.{rising?}
 use Rattle.words.specs.Ranges.{between}
+use Rattle.promises.specs.Lifts.{tableSize, noneZero}
 
 -- the number where the test fails, else what comes after it
 abbrev pub test : Bool → ℕ → ℕ → ℕ
@@ -57,6 +59,18 @@ line12 total picks after = test (eqb total picks) 12 after
 abbrev pub line13 : (k entries after : ℕ) → ℕ
 line13 k entries after = test (leb k entries) 13 after
 
+-- 14. document 02: "not 26 bytes"
+abbrev pub line14 : (bytes after : ℕ) → ℕ
+line14 bytes after = test (eqb bytes tableSize) 14 after
+
+-- 15. document 02: "a lift of 0"
+abbrev pub line15 : (lifts : List ℕ) (after : ℕ) → ℕ
+line15 lifts after = test (noneZero lifts) 15 after
+
+-- 16. document 02: "the draft is not empty"
+abbrev pub line16 : (n after : ℕ) → ℕ
+line16 n after = test (eqb n 0) 16 after
+
 -- The order of each call: n and K are those stored
 
 -- "Start doesn't look at it": at 7
@@ -66,6 +80,10 @@ startRefusal K = line1 mostSections K 0
 -- 7, 2, 3, 8
 unfoldable pub feedRefusal : (n K pick entries : ℕ) → ℕ
 feedRefusal n K pick entries = line7 n K (line2 pick (line3 entries (line8 n 0)))
+
+-- 7, 14, 15, 16
+unfoldable pub loadRefusal : (n K : ℕ) (lifts : List ℕ) → ℕ
+loadRefusal n K lifts = line7 n K (line14 (length lifts) (line15 lifts (line16 n 0)))
 
 -- 7, 4
 unfoldable pub maskRefusal : (n K i : ℕ) → ℕ
@@ -87,14 +105,14 @@ splitRefusal n K i k entries = line7 n K (line1 K k (line13 k entries (line4 0 n
 unfoldable pub recordRefusal : (n K i k : ℕ) → ℕ
 recordRefusal n K i k = line7 n K (line1 K k (line4 0 n i 0))
 
+-- 7, 2
+unfoldable pub liftRefusal : (n K letter : ℕ) → ℕ
+liftRefusal n K letter = line7 n K (line2 letter 0)
+
 -- 4, 6
 unfoldable pub showRefusal : (letters ends : List ℕ) (s : ℕ) → ℕ
 unfolding rising? decide
 showRefusal letters ends s = line4 1 (length ends) s (line6 letters ends 0)
-
--- 2
-unfoldable pub liftRefusal : (letter : ℕ) → ℕ
-liftRefusal letter = line2 letter 0
 
 -- 12, 5, after 11: of a record, the picks that its lengths add up to and the picks that it says
 unfoldable pub unfoldRefusal : (total picks entries : ℕ) → ℕ

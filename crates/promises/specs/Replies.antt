@@ -4,7 +4,7 @@ use mathlib.Core.Bool.{cond}
 use mathlib.Core.List.{List, [], _∷_}
 use mathlib.Core.Option.{Option, some, none}
 use Prim.Native.Nat.{ℕ, zero, suc, _-_}
-use lib.Dec.{leb}
+use lib.Dec.{eqb, leb}
 use lib.ListN.{length, take, drop, getD}
 use Rattle.words.specs.Definitions.{word, turnCount}
 use Rattle.words.specs.Computed.{longestCentre, NextShorter, nextAfter, radiusAt, visits, splitOf}
@@ -14,9 +14,9 @@ use Rattle.layout.specs.Layout.{total}
 use Rattle.layout.specs.Unfolding.{picksOf}
 use Rattle.layout.specs.Reading.{Reading, whole, breaks, reading}
 use Rattle.promises.specs.Answers.{Said, gave, refused, refusedAt, Reply, reply, filled}
-use Rattle.promises.specs.Refusals.{startRefusal, feedRefusal, maskRefusal, centreRefusal, longestRefusal, splitRefusal, recordRefusal, showRefusal, liftRefusal, unfoldRefusal}
-use Rattle.promises.specs.Lifts.{lift}
-use Rattle.promises.specs.Book.{Book, write, Call, start, feed, ask, split, longest, mask, radius, next, fold, lent, fedRow}
+use Rattle.promises.specs.Refusals.{startRefusal, feedRefusal, loadRefusal, maskRefusal, centreRefusal, longestRefusal, splitRefusal, recordRefusal, liftRefusal, showRefusal, unfoldRefusal}
+use Rattle.promises.specs.Lifts.{liftIn, firstZero}
+use Rattle.promises.specs.Book.{Book, write, Call, start, feed, load, ask, split, longest, mask, radius, next, fold, lift, lent, lifted, fedLifted}
 
 -- "A refusal returns its number only; state and lent buffers keep every byte."
 unfoldable pub unless : (number : ℕ) (list : List ℕ) → Reply → Reply
@@ -54,7 +54,7 @@ fedReply bits lengths list = reply (gave (bits ∷ length lengths ∷ [])) (fill
 abbrev pub splitReply : (found : Option (List ℕ)) (list : List ℕ) → Reply
 splitReply found list = orNoSplit found list (λ ends. reply (gave (turnCount ends ∷ [])) (filled ends list))
 
--- w are the letters
+-- the record has the letters w
 abbrev pub recordReply : (w : ℕ → ℕ) (i : ℕ) (found : Option (List ℕ)) (output : List ℕ) → Reply
 recordReply w i found output = orNoSplit found output (λ ends. orTooLong (recordOf w i ends) output)
 
@@ -62,40 +62,57 @@ recordReply w i found output = orNoSplit found output (λ ends. orTooLong (recor
 
 -- A call's number by the tests that do not hang on the draft: n and K are those stored
 unfoldable pub refusalOf : (n K : ℕ) → Call → ℕ
-unfolding startRefusal feedRefusal maskRefusal centreRefusal longestRefusal splitRefusal recordRefusal
+unfolding startRefusal feedRefusal loadRefusal maskRefusal centreRefusal longestRefusal splitRefusal recordRefusal liftRefusal
 refusalOf n K (start k) = startRefusal k
 refusalOf n K (feed pick list) = feedRefusal n K pick (length list)
+refusalOf n K (load lifts) = loadRefusal n K lifts
 refusalOf n K (ask (split i k list)) = splitRefusal n K i k (length list)
 refusalOf n K (ask longest) = longestRefusal n K
 refusalOf n K (ask (mask i)) = maskRefusal n K i
 refusalOf n K (ask (radius c)) = centreRefusal n K c
 refusalOf n K (ask (next c)) = centreRefusal n K c
 refusalOf n K (ask (fold i k output)) = recordRefusal n K i k
+refusalOf n K (ask (lift letter)) = liftRefusal n K letter
 
--- From the book
+-- "15, a lift of 0, with the first one's place from 0"
+abbrev pub atZero : (lifts : List ℕ) → Said → Said
+atZero lifts (gave values) = gave values
+atZero lifts (refused number) = cond (eqb number 15) (refusedAt number (firstZero lifts)) (refused number)
+atZero lifts (refusedAt number place) = refusedAt number place
+
+-- no other number of a call on a state names a place
+abbrev pub placed : Call → Reply → Reply
+placed (start K) r = r
+placed (feed pick list) r = r
+placed (load lifts) r = reply (atZero lifts (r .said)) (r .list)
+placed (ask q) r = r
+
+-- From the book: palindromes are read by lifts, a record has the letters
 
 -- a feed's mask, and its visits
 abbrev pub fedMask : Book → ℕ → ℕ
-fedMask b pick = maskOf (b .K) (word (fedRow b pick)) (length (fedRow b pick))
+fedMask b pick = maskOf (b .K) (word (fedLifted b pick)) (length (fedLifted b pick))
 
 abbrev pub fedVisits : Book → ℕ → List ℕ
-fedVisits b pick = visits (word (fedRow b pick)) (length (fedRow b pick))
+fedVisits b pick = visits (word (fedLifted b pick)) (length (fedLifted b pick))
 
 -- what the book has in reply to a call that passes these tests
 unfoldable pub foundFor : Book → Call → Reply
 unfolding orNoSplit orTooLong recordOf
 foundFor b (start K) = gives []
 foundFor b (feed pick list) = fedReply (fedMask b pick) (fedVisits b pick) list
-foundFor b (ask (split i k list)) = splitReply (splitOf (word (b .row)) i k) list
-foundFor b (ask longest) = gives (longestCentre (word (b .row)) (length (b .row)) ∷ [])
-foundFor b (ask (mask i)) = gives (maskOf (b .K) (word (b .row)) i ∷ [])
-foundFor b (ask (radius c)) = gives (radiusAt (word (b .row)) (length (b .row)) c ∷ [])
-foundFor b (ask (next c)) = reply (orNoEnding (nextAfter (word (b .row)) (length (b .row)) c)) []
-foundFor b (ask (fold i k output)) = recordReply (word (b .row)) i (splitOf (word (b .row)) i k) output
+foundFor b (load lifts) = gives []
+foundFor b (ask (split i k list)) = splitReply (splitOf (word (lifted b)) i k) list
+foundFor b (ask longest) = gives (longestCentre (word (lifted b)) (length (lifted b)) ∷ [])
+foundFor b (ask (mask i)) = gives (maskOf (b .K) (word (lifted b)) i ∷ [])
+foundFor b (ask (radius c)) = gives (radiusAt (word (lifted b)) (length (lifted b)) c ∷ [])
+foundFor b (ask (next c)) = reply (orNoEnding (nextAfter (word (lifted b)) (length (lifted b)) c)) []
+foundFor b (ask (fold i k output)) = recordReply (word (b .row)) i (splitOf (word (lifted b)) i k) output
+foundFor b (ask (lift letter)) = gives (liftIn (b .lifts) letter ∷ [])
 
 unfoldable pub replyTo : Book → Call → Reply
 unfolding unless refusalOf lent foundFor
-replyTo b call = unless (refusalOf (length (b .row)) (b .K) call) (lent call) (foundFor b call)
+replyTo b call = placed call (unless (refusalOf (length (b .row)) (b .K) call) (lent call) (foundFor b call))
 
 -- call by call, the book being written between
 unfoldable pub replies : Book → List Call → List Reply
@@ -113,10 +130,6 @@ sectionOf letters ends s = take (getD (0 ∷ ends) s 0 - getD (0 ∷ ends) (s - 
 unfoldable pub shown : (letters ends : List ℕ) (s : ℕ) → List ℕ
 unfolding unless showRefusal sectionOf
 shown letters ends s = unless (showRefusal letters ends s) [] (reply (gave []) (sectionOf letters ends s)) .list
-
-unfoldable pub liftReply : (letter : ℕ) → Reply
-unfolding unless liftRefusal
-liftReply letter = unless (liftRefusal letter) [] (gives (lift letter ∷ []))
 
 -- by what was read of the bytes: 11 with its place, then 12 and 5, else the picks at the list's front, and how many
 unfoldable pub unfoldedTo : Reading → (list : List ℕ) → Reply

@@ -1,4 +1,4 @@
--- What document 01 says of the answer to each call that is accepted, in propositions of `words`.
+-- What document 01 says of the answer to each call that is accepted, in propositions of `words`. u is what is read of the picks: their lifts.
 use mathlib.Core.Path.{_≡_}
 use mathlib.Core.Logic.{_↔_}
 use mathlib.Core.List.{List, [], _∷_, _++_}
@@ -8,14 +8,15 @@ use Rattle.words.specs.Definitions.{word, prefix, centre, Joined, LeastPeriod, 
 use Rattle.words.specs.Definitions.{radius as radiusOf}
 use Rattle.promises.specs.Answers.{gave, Reply, reply, filled}
 use Rattle.layout.specs.Record.{recordOf}
-use Rattle.promises.specs.Book.{Book, Call, start, feed, ask, split, longest, mask, radius, next, fold, fedRow}
+use Rattle.promises.specs.Lifts.{liftIn}
+use Rattle.promises.specs.Book.{Book, Call, start, feed, load, ask, split, longest, mask, radius, next, fold, lift, lifted, fedLifted}
 
--- "the answer is yes exactly when the prefix is k non-empty palindromes joined": u are the picks, i the prefix; bit k - 1 is for k
+-- "the answer is yes exactly when the prefix is k non-empty palindromes joined": i is the prefix; bit k - 1 is for k
 pub record Yes (K : ℕ) (u : List ℕ) (i m : ℕ) : Type 0 where
   pub exactly : (k : ℕ) → 1 ≤ k → k ≤ K → (bit m (k - 1) ≡ 1) ↔ Joined k (prefix (word u) i)
   pub past : (k : ℕ) → K < k → bit m (k - 1) ≡ 0
 
--- "The answer is either the mask, with the count of visits": u is the row with the pick
+-- "The answer is either the mask, with the count of visits": u has the pick
 pub record FeedSays (K : ℕ) (u list : List ℕ) (r : Reply) : Type 0 where
   pub m : ℕ
   pub lengths : List ℕ
@@ -63,21 +64,24 @@ pub record NextSays (u : List ℕ) (c : ℕ) (r : Reply) : Type 0 where
   pub less : len - p ≡ shorter
   pub is : r ≡ reply (gave (centre (length u) shorter ∷ len ∷ p ∷ [])) []
 
--- "Folded record of prefix i in k sections, by the split just named .. The answer is the record's count of bytes."
-pub record RecordSays (u : List ℕ) (i k : ℕ) (output : List ℕ) (r : Reply) : Type 0 where
+-- "Folded record of prefix i in k sections, by the split just named .. The answer is the record's count of bytes.": it has the row's letters
+pub record RecordSays (row u : List ℕ) (i k : ℕ) (output : List ℕ) (r : Reply) : Type 0 where
   pub ends : List ℕ
   pub named : Named (word u) i k ends
-  pub is : r ≡ reply (gave (length (recordOf (word u) i ends) ∷ [])) (filled (recordOf (word u) i ends) output)
+  pub is : r ≡ reply (gave (length (recordOf (word row) i ends) ∷ [])) (filled (recordOf (word row) i ends) output)
 
 unfoldable pub Says : Book → Call → Reply → Type 0
 Says b (start k) r = r ≡ reply (gave []) []
-Says b (feed pick visits) r = FeedSays (b .K) (fedRow b pick) visits r
-Says b (ask (split i k ends)) r = SplitSays (b .row) i k ends r
-Says b (ask longest) r = LongestSays (b .row) r
-Says b (ask (mask i)) r = MaskSays (b .K) (b .row) i r
-Says b (ask (radius c)) r = RadiusSays (b .row) c r
-Says b (ask (next c)) r = NextSays (b .row) c r
-Says b (ask (fold i k output)) r = RecordSays (b .row) i k output r
+Says b (feed pick visits) r = FeedSays (b .K) (fedLifted b pick) visits r
+Says b (load lifts) r = r ≡ reply (gave []) []
+Says b (ask (split i k ends)) r = SplitSays (lifted b) i k ends r
+Says b (ask longest) r = LongestSays (lifted b) r
+Says b (ask (mask i)) r = MaskSays (b .K) (lifted b) i r
+Says b (ask (radius c)) r = RadiusSays (lifted b) c r
+Says b (ask (next c)) r = NextSays (lifted b) c r
+Says b (ask (fold i k output)) r = RecordSays (b .row) (lifted b) i k output r
+-- the lift in force
+Says b (ask (lift letter)) r = r ≡ reply (gave (liftIn (b .lifts) letter ∷ [])) []
 
 -- "The section is handed back as that part of the lent letters itself": section s begins where the one before it ends, section 1 at 0
 pub record PartOf (letters ends : List ℕ) (s : ℕ) (part : List ℕ) : Type 0 where

@@ -1,19 +1,24 @@
 -- States: of given parts, the one that a start makes, and those that picks make of it.
 use mathlib.Core.List.{List, [], _∷_}
 use Prim.Native.Nat.{ℕ, _+_}
+use lib.ListN.{set, replicate}
+use Rattle.words.specs.Definitions.{mostPicks}
 use Rattle.cells.specs.Lanes.{ByCentre, ByPlace}
 use Rattle.cells.specs.declared.Numbers.{Numbers}
 use Rattle.models.specs.Core.{Arrays, arraysIn, centresIn, placesIn, cleared, append}
 use Rattle.promises.specs.declared.Draft.{Draft}
+use Rattle.promises.specs.Lifts.{fixedLifts, liftIn}
 use Rattle.promises.specs.Book.{Book}
 
--- a state of these numbers, letters and lanes
-abbrev pub draftIn : Numbers → (letters : List ℕ) → ByCentre → ByPlace → Draft
-draftIn held letters v w = record {
+-- a state of these numbers, letters, codes, lifts and lanes
+abbrev pub draftIn : Numbers → (letters codes lifts : List ℕ) → ByCentre → ByPlace → Draft
+draftIn held letters codes lifts v w = record {
   n = held .n;
   k = held .k;
   longest = held .longest;
   letters = letters;
+  codes = codes;
+  lifts = lifts;
   radius = v .radius;
   heads = w .heads;
   lends = v .lends;
@@ -34,23 +39,36 @@ centresOf d = record { radius = d .radius; lends = d .lends; next = d .next; pre
 abbrev pub placesOf : Draft → ByPlace
 placesOf d = record { heads = d .heads; rows = d .rows; gathered = d .gathered }
 
--- all that is stored but n and K
+-- what the iterator and the engine have: all that is stored but n, K, the letters and the lifts. The iterator's letters are the codes
 abbrev pub arraysOf : Draft → Arrays
-arraysOf d = arraysIn (d .letters) (centresOf d) (placesOf d) (d .longest .0)
+arraysOf d = arraysIn (d .codes) (centresOf d) (placesOf d) (d .longest .0)
 
-abbrev pub stateWith : (n k : ℕ) → Arrays → Draft
-stateWith n k a =
-    draftIn (record { n = n; k = k; longest = record { 0 = a .iterator .longest } }) (a .iterator .letters) (centresIn a) (placesIn a)
+abbrev pub stateWith : (n k : ℕ) (letters lifts : List ℕ) → Arrays → Draft
+stateWith n k letters lifts a =
+    draftIn (record { n = n; k = k; longest = record { 0 = a .iterator .longest } }) letters (a .iterator .letters) lifts (centresIn a) (placesIn a)
 
--- "Start: K, giving an empty draft": no picks, and every entry 0 but the row word and the gathered word of prefix 0, which are 1; the
--- longest ending, which is empty, has centre 1
+-- no picks under these lifts: every entry is 0 but the row word and the gathered word of prefix 0, which are 1; the longest ending, which
+-- is empty, has centre 1
+abbrev pub emptyUnder : (K : ℕ) (lifts : List ℕ) → Draft
+emptyUnder K lifts = stateWith 0 K (replicate mostPicks 0) lifts cleared
+
+-- "Start: K, giving an empty draft"; "start brings the fixed one back"
 abbrev pub fresh : ℕ → Draft
-fresh K = stateWith 0 K cleared
+fresh K = emptyUnder K fixedLifts
 
--- one pick more, as the core computes it; no visit list, for nothing of it is stored
+-- these lifts, and all else as it is
+abbrev pub withLifts : Draft → (lifts : List ℕ) → Draft
+withLifts d lifts = draftIn (numbersOf d) (d .letters) (d .codes) lifts (centresOf d) (placesOf d)
+
+-- a pick's code: its lift in force
+abbrev pub codeIn : Draft → (pick : ℕ) → ℕ
+codeIn d pick = liftIn (d .lifts) pick
+
+-- one pick more: its letter is stored, and the core takes its code; no visit list, for nothing of it is stored
 unfoldable pub withPick : Draft → (pick : ℕ) → Draft
 unfolding append
-withPick d pick = stateWith (d .n + 1) (d .k) (append (d .k) (d .n) pick (arraysOf d) [] .arrays)
+withPick d pick =
+    stateWith (d .n + 1) (d .k) (set (d .letters) (d .n) pick) (d .lifts) (append (d .k) (d .n) (codeIn d pick) (arraysOf d) [] .arrays)
 
 -- the picks one after another
 unfoldable pub withPicks : Draft → (picks : List ℕ) → Draft
@@ -58,6 +76,6 @@ unfolding withPick
 withPicks d [] = d
 withPicks d (pick ∷ picks) = withPicks (withPick d pick) picks
 
--- the state of a book: its letters fed to the empty draft
+-- the state of a book: its letters fed to the empty draft under its lifts
 abbrev pub stateOfBook : Book → Draft
-stateOfBook b = withPicks (fresh (b .K)) (b .row)
+stateOfBook b = withPicks (emptyUnder (b .K) (b .lifts)) (b .row)

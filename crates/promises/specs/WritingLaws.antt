@@ -1,42 +1,83 @@
 -- How a call meets its promise: from what it computes on any state, its meaning on a state that holds what stands in the book.
 use mathlib.Core.Path.{_≡_, refl, sym, ap, subst, _∙_}
+use mathlib.Core.Logic.{_≢_}
 use mathlib.Core.List.{List, [], _∷_, _++_}
 use Prim.Native.Nat.{ℕ, suc, _+_, _/_, _^_, _≤_, _<_}
 use native.Mathlib.Omega.{arith}
+use native.Mathlib.Decide.{decLt}
 use lib.Pow.{pow-mono}
-use lib.ListN.{length, drop, replicate, length-append}
+use lib.ListN.{length, drop, set, replicate, length-append, length-set, length-replicate, List·getD-append}
+use lib.Seq.{getD-append-seam}
 use Rattle.cells.specs.Lanes.{ByCentre, ByPlace}
 use Rattle.words.specs.Definitions.{mostPicks, mostSections, word}
 use Rattle.words.specs.Computed.{visits}
 use Rattle.words.specs.Computed.{mask as maskOf}
 use Rattle.words.specs.Laws.{row-lt}
-use Rattle.models.specs.Core.{Arrays, After, append-arrays, Appends, Means, held-none}
+use Rattle.words.specs.Prefixes.{Agree}
+use Rattle.models.specs.Stores.{set-here, set-there}
+use Rattle.models.specs.Core.{Arrays, After, append, append-arrays, Appends, Means, held-none}
 use Rattle.models.specs.Core.{Holds as ArraysHold}
 use Rattle.promises.specs.declared.Draft.{Draft}
 use Rattle.promises.specs.declared.Started.{Started}
 use Rattle.promises.specs.declared.StartAnswer.the-variants.{Begun, Refused as StartRefused}
 use Rattle.promises.specs.declared.FeedAnswer.the-variants.{Taken, Refused as FeedRefused}
-use Rattle.promises.specs.Answers.{gave, refused, reply, filled}
-use Rattle.promises.specs.Refusals.{startRefusal, feedRefusal}
-use Rattle.promises.specs.Book.{Book, book, lent, feedTaken, write}
-use Rattle.promises.specs.Replies.{fedMask, fedVisits, refusalOf, foundFor, replyTo}
-use Rattle.promises.specs.RefusalLaws.{start-fits, feed-fits}
-use Rattle.promises.specs.BookLaws.{Case, taken, left, feed-cases, unless-zero, unless-not}
-use Rattle.promises.specs.State.{draftIn, centresOf, placesOf, fresh, arraysOf, stateWith, withPick}
-use Rattle.promises.specs.Lent.{startedAs}
+use Rattle.promises.specs.declared.LoadAnswer.{LoadAnswer}
+use Rattle.promises.specs.declared.LoadAnswer.the-variants.{InForce}
+use Rattle.promises.specs.Answers.{gave, refused, reply, filled, loadSays}
+use Rattle.promises.specs.Refusals.{startRefusal, feedRefusal, loadRefusal}
+use Rattle.promises.specs.Lifts.{fixedLifts, liftIn, liftedBy}
+use Rattle.promises.specs.Book.{Book, book, load, lent, lifted, fedLifted, feedTaken, loadTaken, write}
+use Rattle.promises.specs.Replies.{fedMask, fedVisits, refusalOf, atZero, placed, foundFor, replyTo}
+use Rattle.promises.specs.LiftLaws.{lifted-length, lifted-more}
+use Rattle.promises.specs.RefusalLaws.{start-fits, FeedFits, feed-fits}
+use Rattle.promises.specs.BookLaws.{Case, taken, left, feed-cases, load-cases, empty-taken, unless-zero, unless-not}
+use Rattle.promises.specs.State.{draftIn, centresOf, placesOf, fresh, arraysOf, stateWith, withLifts, codeIn, withPick}
+use Rattle.promises.specs.Lent.{startedAs, loadedAs}
 use Rattle.promises.specs.Holds.{Holds}
-use Rattle.promises.specs.Promises.{maskByte, StartPromise, Feeds, FeedPromise}
+use Rattle.promises.specs.Promises.{maskByte, StartPromise, Feeds, FeedPromise, Loads, LoadPromise}
+
+-- on a state that holds what stands in the book
+module _ {d : Draft} {b : Book} (h : Holds d b) where
+  pub held-fits : length (b .row) ≤ mostPicks
+  held-fits = omega (arith, h .arrays .fits, lifted-length (b .lifts) (b .row))
+
+  -- n is the count of what is read of the row
+  pub held-picks : d .n ≡ length (lifted b)
+  held-picks = h .picks ∙ sym (lifted-length (b .lifts) (b .row))
+
+  -- the number of a feed and of a load is the one by the book, which is 0 exactly where the book takes it
+
+  pub feed-number : (pick entries : ℕ) → feedRefusal (d .n) (d .k) pick entries ≡ feedRefusal (length (b .row)) (b .K) pick entries
+  feed-number pick entries = rw (h .picks, h .sections)
+
+  pub feed-case : (pick entries : ℕ) → Case (feedTaken b pick entries) (feedRefusal (length (b .row)) (b .K) pick entries)
+  feed-case pick entries = feed-cases b pick entries held-fits (h .least) (h .most)
+
+  pub load-number : (lifts : List ℕ) → loadRefusal (d .n) (d .k) lifts ≡ loadRefusal (length (b .row)) (b .K) lifts
+  load-number lifts = rw (h .picks, h .sections)
+
+  pub load-case : (lifts : List ℕ) → Case (loadTaken b lifts) (loadRefusal (length (b .row)) (b .K) lifts)
+  load-case lifts = load-cases b lifts held-fits (h .least) (h .most)
 
 -- Start
 
-fresh-holds : (K : ℕ) → 1 ≤ K → K ≤ mostSections → Holds (fresh K) (book K [])
-fresh-holds K a b = record { least = a; most = b; sections = refl; picks = refl; arrays = held-none K }
+fresh-holds : (K : ℕ) → 1 ≤ K → K ≤ mostSections → Holds (fresh K) (book K fixedLifts [])
+fresh-holds K a b = record {
+  least = a;
+  most = b;
+  sections = refl;
+  picks = refl;
+  lifts = refl;
+  room = length-replicate {A = ℕ} mostPicks 0;
+  letters = λ i l. absurd (omega arith);
+  arrays = held-none K;
+}
 
 -- an accepted start holds the empty draft
-pub start-holds : {d : Draft} {K : ℕ} {r : Started} → StartPromise d K r → startRefusal K ≡ 0 → Holds (r .state) (book K [])
+pub start-holds : {d : Draft} {K : ℕ} {r : Started} → StartPromise d K r → startRefusal K ≡ 0 → Holds (r .state) (book K fixedLifts [])
 start-holds {K = K} p z =
     let k = start-fits K z in
-    subst (λ s. Holds s (book K [])) (sym (p .begins z)) (fresh-holds K (k .0) (k .1))
+    subst (λ s. Holds s (book K fixedLifts [])) (sym (p .begins z)) (fresh-holds K (k .0) (k .1))
 
 module _ (d : Draft) (K number : ℕ) (e : number ≡ startRefusal K) where
   pub start-refused : 0 < number → StartPromise d K (record { answer = StartRefused number; state = d })
@@ -53,37 +94,42 @@ module _ (d : Draft) (K number : ℕ) (e : number ≡ startRefusal K) where
       let z : startRefusal K ≡ 0 = omega (arith, e) in
       record { says = λ b. sym (unless-zero (startRefusal K) [] _ z); refuses = λ f. absurd (f z); begins = λ _. refl }
 
-  -- in the lanes of no letter
-  pub start-begun-in : number ≤ 0 → (letters : List ℕ) (v : ByCentre) (w : ByPlace) → letters ≡ replicate mostPicks 0 → v ≡ centresOf (fresh K) → w ≡ placesOf (fresh K)
-      → StartPromise d K (startedAs Begun (draftIn (record { n = 0; k = K; longest = record { 0 = 1 } }) letters v w))
-  start-begun-in l letters v w p q r = rw (p, q, r) (start-begun l)
+  -- in the arrays of no letter
+  pub start-begun-in : number ≤ 0 → (letters codes lifts : List ℕ) (v : ByCentre) (w : ByPlace) → letters ≡ replicate mostPicks 0
+      → codes ≡ replicate mostPicks 0 → lifts ≡ fixedLifts → v ≡ centresOf (fresh K) → w ≡ placesOf (fresh K)
+      → StartPromise d K (startedAs Begun (draftIn (record { n = 0; k = K; longest = record { 0 = 1 } }) letters codes lifts v w))
+  start-begun-in l letters codes lifts v w p c t q r = rw (p, c, t, q, r) (start-begun l)
 
 -- Feed
 
--- a state is its numbers and its arrays
-state-as : (s : Draft) (n k : ℕ) (a : Arrays) → s .n ≡ n → s .k ≡ k → arraysOf s ≡ a → s ≡ stateWith n k a
-state-as s n k a p q r = rw (← p, ← q, ← r)
+-- a state is its numbers, letters, lifts and arrays
+state-as : (s : Draft) (n k : ℕ) (letters lifts : List ℕ) (a : Arrays) → s .n ≡ n → s .k ≡ k → s .letters ≡ letters → s .lifts ≡ lifts → arraysOf s ≡ a
+    → s ≡ stateWith n k letters lifts a
+state-as s n k letters lifts a p q l t r = rw (← p, ← q, ← l, ← t, ← r)
+
+-- a letter stored behind the row's
+stored-more : (letters row : List ℕ) (pick : ℕ) → length row < length letters → Agree (word letters) (word row) (length row)
+    → Agree (word (set letters (length row) pick)) (word (row ++ pick ∷ [])) (length (row ++ pick ∷ []))
+stored-more letters row pick room f i l = elim (decLt i (length row)) [
+  | yes x ↦ set-there letters (length row) i pick (λ e. omega arith) ∙ f i x ∙ sym (List·getD-append row (pick ∷ []) 0 i x)
+  | no x ↦
+      let z : i ≡ length row = omega (arith, length-append row (pick ∷ [])) in
+      rw z (set-here letters (length row) pick room ∙ sym (getD-append-seam row pick [] 0))
+]
 
 pub byte-mask : (K x : ℕ) → K ≤ mostSections → x < 2 ^ suc K → maskByte x ≡ x / 2
 byte-mask K x a b = omega (arith, pow-mono {i = suc K} {j = 9} (omega arith))
 
 module _ (d : Draft) (pick : ℕ) (before : List ℕ) (number : ℕ) (e : number ≡ feedRefusal (d .n) (d .k) pick (length before)) where
-  module _ {b : Book} (h : Holds d b) where
-    number-is : feedRefusal (d .n) (d .k) pick (length before) ≡ feedRefusal (length (b .row)) (b .K) pick (length before)
-    number-is = rw (h .picks, h .sections)
-
-    cases : Case (feedTaken b pick (length before)) (feedRefusal (length (b .row)) (b .K) pick (length before))
-    cases = feed-cases b pick (length before) (h .arrays .fits) (h .least) (h .most)
-
   feed-refused-means : {b : Book} → Holds d b → 0 < number → Feeds b pick before (refused number) d before
   unfolding replyTo refusalOf lent foundFor write
-  feed-refused-means {b} h l = go (cases h)
+  feed-refused-means {b} h l = go (feed-case h pick (length before))
     where
       go : Case (feedTaken b pick (length before)) (feedRefusal (length (b .row)) (b .K) pick (length before))
           → Feeds b pick before (refused number) d before
-      go (taken t z) = absurd (omega (arith, e, number-is h, z))
+      go (taken t z) = absurd (omega (arith, e, feed-number h pick (length before), z))
       go (left t z) = record {
-        replies = sym (unless-not _ before _ z ∙ ap (λ x. reply (refused x) before) (sym (e ∙ number-is h)));
+        replies = sym (unless-not _ before _ z ∙ ap (λ x. reply (refused x) before) (sym (e ∙ feed-number h pick (length before))));
         holds = rw t h;
       }
 
@@ -94,28 +140,36 @@ module _ (d : Draft) (pick : ℕ) (before : List ℕ) (number : ℕ) (e : number
     computes = λ z. absurd (omega (arith, e, z));
   }
 
-  -- z is what the core leaves, state the state with it
-  module _ (l : number ≤ 0) (z : After) (state : Draft) (more : state .n ≡ d .n + 1) (same : state .k ≡ d .k) (parts : arraysOf state ≡ z .arrays)
-      (a : Appends (d .k) (d .n) pick (arraysOf d) before z) where
+  -- z is what the core leaves for the pick's code, state the state with it
+  module _ (l : number ≤ 0) (z : After) (state : Draft) (more : state .n ≡ d .n + 1) (same : state .k ≡ d .k)
+      (letters : state .letters ≡ set (d .letters) (d .n) pick) (lifts : state .lifts ≡ d .lifts) (parts : arraysOf state ≡ z .arrays)
+      (code : ℕ) (is : code ≡ codeIn d pick) (a : Appends (d .k) (d .n) code (arraysOf d) before z) where
+    fits : FeedFits (d .n) (d .k) pick (length before)
+    fits = feed-fits (d .n) (d .k) pick (length before) (omega (arith, e))
+
     feed-taken-means : {b : Book} → Holds d b → Feeds b pick before (gave (maskByte (z .row) ∷ z .count ∷ [])) state (z .visits)
     unfolding replyTo refusalOf lent foundFor write maskOf
-    feed-taken-means {b} h = go (cases h)
+    feed-taken-means {b} h = go (feed-case h pick (length before))
       where
-        m : Means (b .K) (b .row ++ pick ∷ []) (arraysOf d) before z
-        m = subst (λ k. Means k (b .row ++ pick ∷ []) (arraysOf d) before z) (h .sections)
-            (a .meaning (b .row) (sym (h .picks)) (subst (λ k. ArraysHold k (b .row) (arraysOf d)) (sym (h .sections)) (h .arrays)))
+        -- the code is the pick's lift
+        read : lifted b ++ code ∷ [] ≡ fedLifted b pick
+        read = ap (λ x. lifted b ++ x ∷ []) (is ∙ ap (λ t. liftIn t pick) (h .lifts)) ∙ sym (lifted-more (b .lifts) (b .row) pick)
+
+        m : Means (b .K) (fedLifted b pick) (arraysOf d) before z
+        m = subst (λ u. Means (b .K) u (arraysOf d) before z) read (subst (λ k. Means k (lifted b ++ code ∷ []) (arraysOf d) before z) (h .sections)
+            (a .meaning (lifted b) (sym (held-picks h)) (subst (λ k. ArraysHold k (lifted b) (arraysOf d)) (sym (h .sections)) (h .arrays))))
 
         bits : maskByte (z .row) ≡ fedMask b pick
-        bits = ap maskByte (m .row) ∙ byte-mask (b .K) _ (h .most) (row-lt (b .K) (word (b .row ++ pick ∷ [])) (length (b .row ++ pick ∷ [])))
+        bits = ap maskByte (m .row) ∙ byte-mask (b .K) _ (h .most) (row-lt (b .K) (word (fedLifted b pick)) (length (fedLifted b pick)))
 
         list : z .visits ≡ filled (fedVisits b pick) before
         list =
-            m .list (omega (arith, a .few, feed-fits (d .n) (d .k) pick (length before) (sym e ∙ omega arith) .enough))
+            m .list (omega (arith, a .few, fits .enough))
             ∙ ap (λ c. fedVisits b pick ++ drop c before) (m .count)
 
         go : Case (feedTaken b pick (length before)) (feedRefusal (length (b .row)) (b .K) pick (length before))
             → Feeds b pick before (gave (maskByte (z .row) ∷ z .count ∷ [])) state (z .visits)
-        go (left t f) = absurd (f (omega (arith, e, number-is h)))
+        go (left t f) = absurd (f (omega (arith, e, feed-number h pick (length before))))
         go (taken t f) = record {
           replies = rw (bits, m .count, list) (sym (unless-zero _ before _ f));
           holds = rw t (record {
@@ -123,21 +177,27 @@ module _ (d : Draft) (pick : ℕ) (before : List ℕ) (number : ℕ) (e : number
             most = h .most;
             sections = same ∙ h .sections;
             picks = more ∙ ap (λ x. x + 1) (h .picks) ∙ sym (length-append (b .row) (pick ∷ []));
-            arrays = subst (ArraysHold (b .K) (b .row ++ pick ∷ [])) (sym parts) (m .holds);
+            lifts = lifts ∙ h .lifts;
+            room = ap length letters ∙ length-set (d .letters) (d .n) pick ∙ h .room;
+            letters = rw (letters, h .picks) (stored-more (d .letters) (b .row) pick (omega (arith, h .room, h .picks, fits .room)) (h .letters));
+            arrays = subst (ArraysHold (b .K) (fedLifted b pick)) (sym parts) (m .holds);
           });
         }
+
+    computed : z ≡ append (d .k) (d .n) (codeIn d pick) (arraysOf d) before
+    computed = a .computes ∙ ap (λ x. append (d .k) (d .n) x (arraysOf d) before) is
 
     stored : state ≡ withPick d pick
     unfolding withPick
     stored =
-        state-as state (d .n + 1) (d .k) _ more same
-        (parts ∙ ap (λ x. x .arrays) (a .computes) ∙ append-arrays (d .k) (d .n) pick (arraysOf d) before)
+        state-as state (d .n + 1) (d .k) _ _ _ more same letters lifts
+        (parts ∙ ap (λ x. x .arrays) computed ∙ append-arrays (d .k) (d .n) (codeIn d pick) (arraysOf d) before)
 
     pub feed-taken : FeedPromise d pick before (record { answer = Taken (maskByte (z .row)) (z .count); state = state }) (z .visits)
     feed-taken = record {
       meaning = λ b h. feed-taken-means h;
       refuses = λ f. absurd (f (omega (arith, e)));
-      computes = λ _. rw (← a .computes) (record {
+      computes = λ _. rw (← computed) (record {
         says = refl;
         list = refl;
         few = a .few;
@@ -146,3 +206,56 @@ module _ (d : Draft) (pick : ℕ) (before : List ℕ) (number : ℕ) (e : number
         stores = stored;
       });
     }
+
+-- Load
+
+module _ (d : Draft) (lifts : List ℕ) (number : ℕ) (e : number ≡ loadRefusal (d .n) (d .k) lifts) where
+  load-refused-means : (answer : LoadAnswer) → loadSays answer ≡ atZero lifts (refused number) → number ≢ 0 → {b : Book} → Holds d b
+      → Loads b lifts (loadSays answer) d
+  unfolding replyTo refusalOf lent foundFor write
+  load-refused-means answer s f {b} h = go (load-case h lifts)
+    where
+      go : Case (loadTaken b lifts) (loadRefusal (length (b .row)) (b .K) lifts) → Loads b lifts (loadSays answer) d
+      go (taken t z) = absurd (f (e ∙ load-number h lifts ∙ z))
+      go (left t z) = record {
+        replies = ap (λ x. reply x []) (s ∙ ap (λ x. atZero lifts (refused x)) (e ∙ load-number h lifts)) ∙ ap (placed (load lifts)) (sym (unless-not _ [] _ z));
+        holds = rw t h;
+      }
+
+  pub load-refused : (answer : LoadAnswer) → loadSays answer ≡ atZero lifts (refused number) → number ≢ 0 → LoadPromise d lifts (loadedAs answer d)
+  load-refused answer s f = record {
+    meaning = λ b h. load-refused-means answer s f h;
+    refuses = λ _. (s ∙ ap (λ x. atZero lifts (refused x)) e, refl);
+    computes = λ z. absurd (f (e ∙ z));
+  }
+
+  load-taken-means : number ≡ 0 → {b : Book} → Holds d b → Loads b lifts (gave []) (withLifts d lifts)
+  unfolding replyTo refusalOf lent foundFor write
+  load-taken-means q {b} h = go (load-case h lifts)
+    where
+      -- an empty row is read alike under any lifts
+      arrays : b .row ≡ [] → ArraysHold (b .K) (liftedBy lifts (b .row)) (arraysOf d)
+      arrays r = rw r (rw r at (h .arrays))
+
+      go : Case (loadTaken b lifts) (loadRefusal (length (b .row)) (b .K) lifts) → Loads b lifts (gave []) (withLifts d lifts)
+      go (left t z) = absurd (z (sym (e ∙ load-number h lifts) ∙ q))
+      go (taken t z) = record {
+        replies = ap (placed (load lifts)) (sym (unless-zero _ [] _ z));
+        holds = rw t (record {
+          least = h .least;
+          most = h .most;
+          sections = h .sections;
+          picks = h .picks;
+          lifts = refl;
+          room = h .room;
+          letters = h .letters;
+          arrays = arrays (empty-taken b lifts t);
+        });
+      }
+
+  pub load-taken : number ≡ 0 → LoadPromise d lifts (loadedAs InForce (withLifts d lifts))
+  load-taken q = record {
+    meaning = λ b h. load-taken-means q h;
+    refuses = λ f. absurd (f (sym e ∙ q));
+    computes = λ _. (refl, refl);
+  }

@@ -3,9 +3,10 @@ use cells::ByCentre;
 use cells::ByPlace;
 use cells::Centre;
 use cells::Letters;
+use cells::Lifts;
 
 // The numbers of the refusals that come after a search: no split, no ending with the centre, a record longer than the output (or
-// its picks more than the list's entries), bytes that are no record, lengths that do not add up to the picks.
+// its picks more than the list's entries), bytes that are no record, lengths that do not add up to the picks, a lift of 0.
 pub const NO_SPLIT: u8 = 9;
 
 pub const NO_ENDING: u8 = 10;
@@ -16,6 +17,8 @@ pub const NO_RECORD: u8 = 11;
 
 pub const UNEQUAL: u8 = 12;
 
+pub const ZERO_LIFT: u8 = 15;
+
 // The state of the board. Any numbers may be stored in it; a start does not look at them, and makes it an empty draft.
 pub struct Draft {
     // The picks so far, and K.
@@ -23,7 +26,11 @@ pub struct Draft {
     pub k: usize,
     // The centre of the longest ending.
     pub longest: Centre,
+    // The picks: their letters, and what the iterator compares, which is their lifts.
     pub letters: Letters,
+    pub codes: Letters,
+    // The table in force.
+    pub lifts: Lifts,
     // The iterator's arrays: radii, lend lists, the list of the endings' centres.
     pub radius: ByCentre,
     pub heads: ByPlace,
@@ -53,6 +60,18 @@ pub enum FeedAnswer {
 
 pub struct Fed {
     pub answer: FeedAnswer,
+    pub state: Draft,
+}
+
+pub enum LoadAnswer {
+    InForce,
+    Refused(u8),
+    // A number with its place.
+    RefusedAt(u8, usize),
+}
+
+pub struct Loaded {
+    pub answer: LoadAnswer,
     pub state: Draft,
 }
 

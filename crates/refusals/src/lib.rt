@@ -1,10 +1,11 @@
 // The numbers of the refusals: each line of the documents' lists, and for each call the first that it meets. 0 is none.
-// Number 6 stands with show; 9, 10 and 5 come after a search, with the calls that make it.
+// Number 6 stands with show; 9, 10, 5 and 15 come after a search, with the calls that make it.
 ghost use mathlib.Core.Path.{_≡_};
-ghost use Rattle.promises.specs.Refusals.{line1, line2, line3, line4, line7, line8, line13, startRefusal, feedRefusal, maskRefusal, centreRefusal, longestRefusal, splitRefusal, recordRefusal, liftRefusal};
+ghost use Rattle.promises.specs.Refusals.{line1, line2, line3, line4, line7, line8, line13, line14, line16, startRefusal, feedRefusal, maskRefusal, centreRefusal, longestRefusal, splitRefusal, recordRefusal, liftRefusal};
 ghost use Rattle.promises.specs.RefusalLaws.{orElse};
 ghost use Prim.Native.Nat.{_+_, _*_, _≤_};
 ghost use Rattle.words.specs.Definitions.{mostPicks};
+use cells::ALPHABET;
 use cells::Centre;
 use cells::FIRST_LETTER;
 use cells::LAST_LETTER;
@@ -99,6 +100,26 @@ fn line13(k: usize, entries: usize) -> u8
     0
 }
 
+// 14: not as many bytes as there are letters.
+fn line14(bytes: usize) -> u8
+    ensures { λ r. ⌜ r ≡ line14 bytes 0 ⌝ }
+{
+    if bytes == ALPHABET {
+        return 0;
+    }
+    14
+}
+
+// 16: a draft that has picks.
+pub fn line16(n: usize) -> u8
+    ensures { λ r. ⌜ r ≡ line16 n 0 ⌝ }
+{
+    if n == 0 {
+        return 0;
+    }
+    16
+}
+
 // The first of two numbers that is not 0.
 pub fn first(a: u8, b: u8) -> u8
     ensures { λ r. ⌜ r ≡ orElse a b ⌝ }
@@ -175,8 +196,19 @@ pub fn record_refusal(held: Numbers, i: Place, k: u8) -> u8
     first(state, first(sections, prefix))
 }
 
-pub fn lift_refusal(letter: u8) -> u8
-    ensures { λ r. ⌜ r ≡ liftRefusal letter ⌝ }
+pub fn lift_refusal(held: Numbers, letter: u8) -> u8
+    ensures { λ r. ⌜ r ≡ liftRefusal (held .n) (held .k) letter ⌝ }
 {
-    line2(letter)
+    let state = line7(held.n, held.k);
+    let letter = line2(letter);
+    first(state, letter)
+}
+
+// A load's, before its bytes are looked at: 7 and 14.
+pub fn table_refusal(held: Numbers, bytes: usize) -> u8
+    ensures { λ r. ⌜ r ≡ orElse (line7 (held .n) (held .k) 0) (line14 bytes 0) ⌝ }
+{
+    let state = line7(held.n, held.k);
+    let table = line14(bytes);
+    first(state, table)
 }

@@ -7,6 +7,7 @@ use calls::feed::feed;
 use cells::Centre;
 use cells::Centres;
 use cells::Letters;
+use cells::Lifts;
 use cells::Numbers;
 use cells::Places;
 use cells::SECTIONS;
@@ -22,11 +23,13 @@ fn mask_of(a: FeedAnswer) -> u8
     }
 }
 
-// Feeds the picks, K = 8, from no pick and centre 1 on, whatever the arrays hold; each pick's mask is stored. Gives the centre of the
-// longest ending.
+// Feeds the picks, K = 8, from no pick and centre 1 on, under these lifts and whatever the arrays hold; each pick's mask is stored.
+// Gives the centre of the longest ending.
 #[no_mangle]
 pub extern "C" fn feed_all(
     letters: &mut Letters,
+    codes: &mut Letters,
+    lifts: &Lifts,
     centres: &mut Centres,
     places: &mut Places,
     visits: &mut [u16],
@@ -34,8 +37,11 @@ pub extern "C" fn feed_all(
     masks: &mut [u8],
 ) -> usize
     ensures { λ r. ⌜ FeedsAll
-        (draftIn (record { n = 0; k = 8; longest = record { 0 = 1 } }) (now (letters .entry)) (byCentre (now (centres .entry))) (byPlace (now (places .entry))))
-        (now (picks .entry)) (now (masks .entry)) r (λ held. draftIn held (now (letters .exit)) (byCentre (now (centres .exit))) (byPlace (now (places .exit)))) (now (masks .exit)) ⌝ }
+        (draftIn (record { n = 0; k = 8; longest = record { 0 = 1 } })
+        (now (letters .entry)) (now (codes .entry)) (now (lifts .entry)) (byCentre (now (centres .entry))) (byPlace (now (places .entry))))
+        (now (picks .entry)) (now (masks .entry)) r
+        (λ held. draftIn held (now (letters .exit)) (now (codes .exit)) (now (lifts .entry)) (byCentre (now (centres .exit))) (byPlace (now (places .exit))))
+        (now (masks .exit)) ⌝ }
 {
     let mut held = Numbers {
         n: 0,
@@ -44,7 +50,8 @@ pub extern "C" fn feed_all(
     };
     let mut i = 0usize;
     while i < picks.len() {
-        let step = feed(letters, centres, places, visits, held, picks[i]);
+        let pick = picks[i];
+        let step = feed(letters, codes, lifts, centres, places, visits, held, pick);
         let answer = step.answer;
         store_byte(masks, i, mask_of(answer));
         held = step.numbers;

@@ -3,6 +3,7 @@
 pub mod feed;
 pub mod fold;
 pub mod lift;
+pub mod load;
 pub mod longest;
 pub mod mask;
 pub mod next;

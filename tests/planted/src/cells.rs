@@ -24,8 +24,14 @@ pub const FIRST_LETTER: u8 = 65;
 /// The last letter of a pick.
 pub const LAST_LETTER: u8 = 90;
 
-/// A letter for each place that a pick follows.
+/// How many letters there are.
+pub const ALPHABET: usize = 26;
+
+/// A letter, or a code, for each place that a pick follows.
 pub type Letters = [u8; PICKS];
+
+/// A lift for each letter.
+pub type Lifts = [u8; ALPHABET];
 
 /// A number of 16 bits for each place.
 pub type ByPlace = [u16; PICKS + 1];

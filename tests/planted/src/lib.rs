@@ -18,9 +18,8 @@ pub mod splitting;
 pub mod state;
 pub mod text;
 
-use calls::lift::lift;
 use calls::show::{show, show_number};
-use cells::{Centre, Centres, Letters, Numbers, Place, Places};
+use cells::{Centre, Centres, Letters, Lifts, Numbers, Place, Places};
 use layout::{Section, Turn};
 use reader::section::section_at;
 use reader::unfold::unfold;
@@ -29,8 +28,7 @@ use state::{State, UnfoldAnswer};
 use std::slice::{from_raw_parts, from_raw_parts_mut};
 use text::bytes::write_bytes;
 
-/// The calls of the script, one after the other; gives their number. No call reads the
-/// input.
+/// The calls of the script, one after the other; gives their number.
 ///
 /// # Safety
 ///
@@ -38,13 +36,15 @@ use text::bytes::write_bytes;
 #[no_mangle]
 pub unsafe extern "C" fn drive(
     letters: &mut Letters,
+    codes: &mut Letters,
+    lifts: &mut Lifts,
     centres: &mut Centres,
     places: &mut Places,
     numbers: &mut [usize; 3],
     script: *const u8,
     script_len: usize,
-    _input: *const u8,
-    _input_len: usize,
+    input: *const u8,
+    input_len: usize,
     lists: *mut u16,
     lists_len: usize,
     bytes: *mut u8,
@@ -59,11 +59,14 @@ pub unsafe extern "C" fn drive(
             longest: Centre(numbers[2]),
         },
         letters,
+        codes,
+        lifts,
         centres,
         places,
     };
     let lent = Lent {
         script: from_raw_parts(script, script_len),
+        input: from_raw_parts(input, input_len),
         lists: from_raw_parts_mut(lists, lists_len),
         bytes: from_raw_parts_mut(bytes, bytes_len),
         answers: from_raw_parts_mut(answers, answers_len),
@@ -95,17 +98,6 @@ pub unsafe extern "C" fn drive_show(
     let section = show(letters, ends, s);
     *answer = [usize::from(number), section.len()];
     write_bytes(section, part, 0);
-    0
-}
-
-/// The lift of a letter: the answer is 0 and the lift, or 1 and the number of the
-/// refusal.
-#[no_mangle]
-pub extern "C" fn drive_lift(letter: u8, answer: &mut [usize; 2]) -> usize {
-    *answer = match lift(letter) {
-        Ok(lift) => [0, usize::from(lift)],
-        Err(number) => [1, usize::from(number)],
-    };
     0
 }
 

@@ -1,8 +1,9 @@
 //! The numbers of the refusals: each line of the documents' lists, and for each call the
-//! first that it meets. 0 is none. Number 6 stands with show; 9, 10 and 5 come after a
-//! search, with the calls that make it.
+//! first that it meets. 0 is none. Number 6 stands with show, 15 with load; 9, 10 and 5
+//! come after a search, with the calls that make it.
 
-use crate::cells::{Centre, Numbers, Place, FIRST_LETTER, LAST_LETTER, PICKS, SECTIONS, VISITS};
+use crate::cells::{Centre, Numbers, Place, ALPHABET, FIRST_LETTER, LAST_LETTER};
+use crate::cells::{PICKS, SECTIONS, VISITS};
 use crate::state::Answer;
 
 /// The number where its line is met, else 0.
@@ -47,6 +48,16 @@ fn line8(n: usize) -> u8 {
 /// 13: an ends list that is too short.
 fn line13(k: usize, entries: usize) -> u8 {
     line(13, entries < k)
+}
+
+/// 14: a table that has not a byte for each letter.
+fn line14(bytes: usize) -> u8 {
+    line(14, bytes != ALPHABET)
+}
+
+/// 16: a draft that has picks.
+pub fn line16(n: usize) -> u8 {
+    line(16, 0 < n)
 }
 
 /// The first of the numbers that is not 0, where there is one.
@@ -117,6 +128,15 @@ pub fn record_refusal(held: Numbers, i: Place, k: usize) -> Answer<()> {
 }
 
 /// The lift of a letter.
-pub fn lift_refusal(letter: u8) -> Answer<()> {
-    first(&[line2(letter)])
+pub fn lift_refusal(held: Numbers, letter: u8) -> Answer<()> {
+    let stored = line7(held.n, held.k);
+    let letter = line2(letter);
+    first(&[stored, letter])
+}
+
+/// A load's, before its bytes are looked at: 7 and 14.
+pub fn table_refusal(held: Numbers, bytes: usize) -> Answer<()> {
+    let stored = line7(held.n, held.k);
+    let table = line14(bytes);
+    first(&[stored, table])
 }

@@ -1,17 +1,28 @@
 //! The state of the board, and what a call answers.
 
-use crate::cells::{Centres, Letters, Numbers, Places};
+use crate::cells::{Centres, Letters, Lifts, Numbers, Places};
 
-/// The state: three numbers, and the arrays, which are lent.
+/// The state: three numbers, and the arrays, which are lent. The codes are the lifts of the
+/// picks when they were fed.
 pub struct State<'a> {
     pub numbers: Numbers,
     pub letters: &'a mut Letters,
+    pub codes: &'a mut Letters,
+    pub lifts: &'a mut Lifts,
     pub centres: &'a mut Centres,
     pub places: &'a mut Places,
 }
 
 /// A call's values, or the number of the refusal.
 pub type Answer<T> = Result<T, u8>;
+
+/// What a load answers.
+pub enum LoadAnswer {
+    InForce,
+    Refused(u8),
+    /// A number with its place.
+    RefusedAt(u8, usize),
+}
 
 /// What an unfold answers.
 pub enum UnfoldAnswer {

@@ -1,9 +1,11 @@
-//! The lift of a letter, which is given no state.
+//! The lift of a letter.
 
-use super::{Answer, NOT_A_PICK};
+use super::{Answer, State, NOT_A_PICK};
 use crate::plain;
 
-/// "A call gives the lift of a letter."
-pub fn lift(letter: u8) -> Answer<u8> {
-    plain::lift(letter).ok_or(NOT_A_PICK)
+/// "A call gives the lift of a letter." "The lift call now takes the state": the lift is
+/// the one in force.
+pub fn lift(state: &State, letter: u8) -> Answer<u8> {
+    state.check()?;
+    plain::lift(&state.lifts, letter).ok_or(NOT_A_PICK)
 }

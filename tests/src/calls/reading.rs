@@ -1,6 +1,8 @@
 //! The folded record read back, which is given no state.
 
-use super::{refuse_if, Placed, LENGTHS_NOT_THE_PICKS, NOT_A_RECORD, OUTPUT_TOO_SHORT};
+use super::{
+    refuse_if, without_place, Placed, LENGTHS_NOT_THE_PICKS, NOT_A_RECORD, OUTPUT_TOO_SHORT,
+};
 use crate::fields::{fields, Fields};
 use crate::plain::{turn, unfolded, Turn};
 
@@ -46,9 +48,4 @@ fn check(record: &[u8]) -> Result<Fields<'_>, Placed> {
     let lengths: usize = fields.sections.iter().map(|s| s.length).sum();
     refuse_if(lengths != fields.picks, LENGTHS_NOT_THE_PICKS).map_err(without_place)?;
     Ok(fields)
-}
-
-/// A number that names no place.
-fn without_place(number: u8) -> Placed {
-    (number, None)
 }

@@ -2,25 +2,49 @@
 
 use super::{refuse_if, Answer, PLACE_OUT_OF_RANGE, SECTIONS_OUT_OF_RANGE, STATE_OUT_OF_RANGE};
 use crate::fast::Fast;
-use crate::plain::is_most_sections;
-use crate::{memo, MOST_PICKS};
+use crate::plain::{fixed_lifts, is_most_sections, word, Lifts};
+use crate::{memo, LETTERS, MOST_PICKS};
 
-/// A stored state: n, K, and the letters, of which the first n are the draft.
+/// A stored state: n, K, the letters, of which the first n are the draft, the lift of each
+/// when it was fed, and the lifts in force.
 #[derive(Clone, Debug, PartialEq, Eq)]
 pub struct State {
     pub n: usize,
     pub most_sections: usize,
     pub letters: [u8; MOST_PICKS],
+    pub codes: [u8; MOST_PICKS],
+    pub lifts: Lifts,
 }
 
 impl State {
-    /// The empty draft with K.
-    pub fn empty(most_sections: usize) -> State {
+    /// A state of zeros, which is no draft yet.
+    pub fn zeros() -> State {
         State {
             n: 0,
-            most_sections,
+            most_sections: 0,
             letters: [0; MOST_PICKS],
+            codes: [0; MOST_PICKS],
+            lifts: [0; LETTERS],
         }
+    }
+
+    /// The empty draft with K, under the fixed lifts.
+    pub fn empty(most_sections: usize) -> State {
+        State::of(b"", most_sections, &fixed_lifts())
+    }
+
+    /// A draft with K, all of it fed under these lifts.
+    pub fn of(draft: &[u8], most_sections: usize, lifts: &Lifts) -> State {
+        let n = draft.len();
+        let mut state = State {
+            n,
+            most_sections,
+            lifts: *lifts,
+            ..State::zeros()
+        };
+        state.letters[..n].copy_from_slice(draft);
+        state.codes[..n].copy_from_slice(&word(lifts, draft));
+        state
     }
 
     /// Number 7: "Stored n above 2,048 or stored K outside 1 to 8."
@@ -52,8 +76,8 @@ impl State {
         &self.letters[..i]
     }
 
-    /// Puts a question about the draft to its tables.
+    /// Puts a question about the draft to the tables of its word.
     pub(super) fn ask<T>(&self, question: impl FnOnce(&Fast) -> T) -> T {
-        memo::ask(self.prefix(self.n), self.most_sections, question)
+        memo::ask(&self.codes[..self.n], self.most_sections, question)
     }
 }

@@ -36,7 +36,7 @@ impl Fast {
         shorter.map(|cut| NextEnding {
             centre: n + cut + 1,
             length,
-            period: least_period(&self.letters[before..n]),
+            period: least_period(&self.word[before..n]),
         })
     }
 }

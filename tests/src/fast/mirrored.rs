@@ -13,14 +13,14 @@ impl Mirrored {
         }
     }
 
-    /// Adds the stretches that close the whole of the letters. A stretch of two
-    /// or more picks is mirrored when its outer letters are the same and the
-    /// stretch between them is mirrored; a shorter one always is.
-    pub fn add_prefix(&mut self, letters: &[u8]) {
-        let j = letters.len();
+    /// Adds the stretches that close the whole word. A stretch of two or more picks
+    /// is mirrored when its outer lifts are equal and the stretch between them is
+    /// mirrored; a shorter one always is.
+    pub fn add_prefix(&mut self, word: &[u8]) {
+        let j = word.len();
         let inner = &self.prefixes[j - 1];
         let closing = (0..=j)
-            .map(|i| j - i < 2 || (letters[i] == letters[j - 1] && inner[i + 1]))
+            .map(|i| j - i < 2 || (word[i] == word[j - 1] && inner[i + 1]))
             .collect();
         self.prefixes.push(closing);
     }

@@ -2,10 +2,10 @@
 //! and Pratt).
 
 /// The least period of each non-empty suffix, by length from 1. A suffix read
-/// backwards is a prefix of the reversed letters and has the same periods; its
+/// backwards is a prefix of the reversed word and has the same periods; its
 /// least period is its length less its longest border.
-pub fn least_periods_of_suffixes(letters: &[u8]) -> Vec<usize> {
-    let reversed: Vec<u8> = letters.iter().rev().copied().collect();
+pub fn least_periods_of_suffixes(word: &[u8]) -> Vec<usize> {
+    let reversed: Vec<u8> = word.iter().rev().copied().collect();
     longest_borders(&reversed)
         .iter()
         .enumerate()

@@ -47,7 +47,7 @@ fn ends_of(lengths: &Lengths, k: usize) -> Vec<usize> {
 impl Fast {
     /// The splits named of the whole draft, from those of the shorter prefixes.
     pub(super) fn named_splits(&self) -> Named {
-        let n = self.letters.len();
+        let n = self.word.len();
         let mut named = [None; MOST_SECTIONS + 1];
         for cut in (0..n).filter(|&cut| self.mirrored.is_mirrored(cut, n)) {
             for k in 1..=self.most_sections {

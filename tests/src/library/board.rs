@@ -1,13 +1,18 @@
-//! The stored state: letters, lanes by centre and by place, and three numbers.
+//! The stored state: letters, codes, lifts, lanes by centre and by place, and three numbers.
 
 use super::guarded::Guarded;
-use crate::MOST_PICKS;
+use crate::plain::Lifts;
+use crate::{LETTERS, MOST_PICKS};
 use ::board::{CENTRES, CENTRE_LANES, GATHERED, NUMBERS, PLACES, PLACE_LANES, ROWS};
 
 /// The state that the library's calls are given, and what it keeps of a draft.
 #[derive(Clone, PartialEq, Eq)]
 pub struct Board {
     pub(super) letters: Guarded<u8>,
+    /// The lift of each pick when it was fed.
+    pub(super) codes: Guarded<u8>,
+    /// The lifts in force.
+    pub(super) lifts: Guarded<u8>,
     /// The lanes by centre, one after the other.
     pub(super) centres: Guarded<u16>,
     /// The lanes by place, one after the other.
@@ -25,15 +30,20 @@ impl Board {
         board
     }
 
-    /// Letters and lanes with the given entries; n, K and the stored centre are 0.
+    /// Letters, codes, lifts and lanes with the given entries; n, K and the stored centre
+    /// are 0.
     pub fn filled(mut entry: impl FnMut() -> u16) -> Board {
         let mut board = Board {
             letters: Guarded::new(MOST_PICKS),
+            codes: Guarded::new(MOST_PICKS),
+            lifts: Guarded::new(LETTERS),
             centres: Guarded::new(CENTRE_LANES * CENTRES),
             places: Guarded::new(PLACE_LANES * PLACES),
             numbers: Guarded::new(NUMBERS),
         };
-        board.letters_mut().fill_with(|| entry() as u8);
+        for bytes in board.bytes_mut() {
+            bytes.fill_with(|| entry() as u8);
+        }
         for lane in board.lanes_mut() {
             lane.fill_with(&mut entry);
         }
@@ -43,6 +53,22 @@ impl Board {
     /// The stored letters, to write any of them.
     pub fn letters_mut(&mut self) -> &mut [u8] {
         self.letters.inner_mut()
+    }
+
+    /// The stored codes, to write any of them.
+    pub fn codes_mut(&mut self) -> &mut [u8] {
+        self.codes.inner_mut()
+    }
+
+    /// The stored lifts, to write any of them.
+    pub fn lifts_mut(&mut self) -> &mut [u8] {
+        self.lifts.inner_mut()
+    }
+
+    /// Every array of bytes, to write any of them: letters, codes, lifts.
+    pub fn bytes_mut(&mut self) -> [&mut [u8]; 3] {
+        let arrays = [&mut self.letters, &mut self.codes, &mut self.lifts];
+        arrays.map(Guarded::inner_mut)
     }
 
     /// Every lane, to write any entry of it: those by centre, then those by place.
@@ -97,6 +123,22 @@ impl Board {
         &self.letters.inner()[..self.n()]
     }
 
+    /// The lifts of the draft's picks, each when it was fed.
+    pub fn codes(&self) -> &[u8] {
+        &self.codes.inner()[..self.n()]
+    }
+
+    /// All letters and all codes that are stored, those beyond the draft included.
+    pub fn stored_picks(&self) -> [&[u8]; 2] {
+        [self.letters.inner(), self.codes.inner()]
+    }
+
+    /// The lifts in force.
+    pub fn lifts(&self) -> Lifts {
+        let lifts = Lifts::try_from(self.lifts.inner());
+        lifts.expect("a lift for each letter")
+    }
+
     /// The row words of places 0 to n.
     pub fn rows(&self) -> &[u16] {
         &self.place_lane(ROWS)[..=self.n()]
@@ -107,9 +149,18 @@ impl Board {
         &self.place_lane(GATHERED)[..=self.n()]
     }
 
-    /// Whether nothing is written outside the letters, the lanes and the numbers.
+    /// Whether all is as in another state but for the lifts.
+    pub fn keeps_all_but_lifts(&self, other: &Board) -> bool {
+        let mut same = self.clone();
+        same.lifts = other.lifts.clone();
+        same == *other
+    }
+
+    /// Whether nothing is written outside the letters, the codes, the lifts, the lanes and
+    /// the numbers.
     pub(super) fn guards_hold(&self) -> bool {
-        self.letters.guards_hold()
+        let bytes = [&self.letters, &self.codes, &self.lifts];
+        bytes.iter().all(|bytes| bytes.guards_hold())
             && self.centres.guards_hold()
             && self.places.guards_hold()
             && self.numbers.guards_hold()

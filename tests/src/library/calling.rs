@@ -2,8 +2,10 @@
 
 use super::board::Board;
 use super::running::Lent;
-use crate::calls::{Answer, NextEnding, Taken};
+use crate::calls::{Answer, NextEnding, Placed, Taken};
+use crate::plain::Lifts;
 use crate::scripted::{Call, Reply, VALUES};
+use crate::tables::Table;
 use crate::VISIT_ROOM;
 
 /// A number of a script's call, which has 16 bits.
@@ -16,44 +18,76 @@ fn byte(number: usize) -> u8 {
     u8::try_from(number).expect("an argument of 8 bits")
 }
 
+/// The values of a reply, or its number, which names no place.
+fn values(call: Call, reply: Reply) -> Answer<[usize; VALUES]> {
+    reply.map_err(|(number, place)| {
+        assert_eq!(place, None, "place of {number}, {call:?}");
+        number
+    })
+}
+
 /// The value of a reply that has one.
 fn one_value(call: Call, reply: Reply) -> Answer<usize> {
-    let [value, none @ ..] = reply?;
+    let [value, none @ ..] = values(call, reply)?;
     assert_eq!(none, [0, 0], "more values of {call:?}");
     Ok(value)
 }
 
 impl Board {
-    /// The state after a start with K and a feed of each pick, all accepted, made as
-    /// one script.
+    /// The state after a start with K and a feed of each pick, all accepted.
     pub fn fed(draft: &[u8], most_sections: usize) -> Board {
         let mut board = Board::started(most_sections);
+        board.feed_all(draft);
+        board
+    }
+
+    /// The state after a start with K, a load of these lifts and a feed of each pick, all
+    /// accepted.
+    pub fn fed_under(lifts: &Lifts, draft: &[u8], most_sections: usize) -> Board {
+        let mut board = Board::started(most_sections);
+        assert_eq!(board.load(Table::of(*lifts)), Ok(()), "load of {lifts:?}");
+        board.feed_all(draft);
+        board
+    }
+
+    /// Feeds each pick, all of them as one script; each is accepted.
+    pub fn feed_all(&mut self, draft: &[u8]) {
         let entries = VISIT_ROOM as u16;
         let feeds: Vec<Call> = draft
             .iter()
             .map(|&pick| Call::Feed { pick, entries })
             .collect();
-        let replies = board.run(&feeds, &mut Lent::to(&feeds, 0, 0));
+        let replies = self.run(&feeds, &mut Lent::to(&feeds, 0, 0));
         let text = String::from_utf8_lossy(draft);
         assert!(replies.iter().all(Reply::is_ok), "feeds of {text}");
-        board
     }
 
     /// Start.
     pub fn start(&mut self, most_sections: u8) -> Answer<()> {
-        let values = self.make(Call::Start { most_sections }, &mut [], &mut [])?;
-        assert_eq!(
-            values, [0; VALUES],
-            "values of a start with K {most_sections}"
-        );
+        let call = Call::Start { most_sections };
+        let none = values(call, self.make(call, &mut [], &mut []))?;
+        assert_eq!(none, [0; VALUES], "values of {call:?}");
         Ok(())
+    }
+
+    /// Load.
+    pub fn load(&mut self, table: Table) -> Result<(), Placed> {
+        let call = Call::Load { table };
+        let none = self.make(call, &mut [], &mut [])?;
+        assert_eq!(none, [0; VALUES], "values of {call:?}");
+        Ok(())
+    }
+
+    /// The lift of a letter.
+    pub fn lift(&mut self, letter: u8) -> Answer<usize> {
+        self.value(Call::Lift { letter })
     }
 
     /// Feed.
     pub fn feed(&mut self, pick: u8, visit_list: &mut [u16]) -> Answer<Taken> {
         let entries = short(visit_list.len());
         let call = Call::Feed { pick, entries };
-        let [mask, visits, none] = self.make(call, visit_list, &mut [])?;
+        let [mask, visits, none] = values(call, self.make(call, visit_list, &mut []))?;
         assert_eq!(none, 0, "third value of {call:?}");
         let mask = u8::try_from(mask).expect("a mask of 8 bits");
         Ok(Taken { mask, visits })
@@ -94,7 +128,7 @@ impl Board {
     pub fn next_ending(&mut self, centre: usize) -> Answer<NextEnding> {
         let centre = short(centre);
         let call = Call::NextEnding { centre };
-        let [centre, length, period] = self.make(call, &mut [], &mut [])?;
+        let [centre, length, period] = values(call, self.make(call, &mut [], &mut []))?;
         Ok(NextEnding {
             centre,
             length,

@@ -3,21 +3,21 @@
 use super::board::Board;
 use super::guarded::Guarded;
 use crate::calls::Refusal;
-use crate::scripted::{script, Call, Reply, VALUES};
+use crate::scripted::{refused, script, Call, Reply, VALUES};
 use ::board::functions::drive;
 
-/// Numbers that the library writes for each call: 0 and the values, or 1, the refusal
-/// number and zeros.
+/// Numbers that the library writes for each call: 0 and the values; 1, the refusal number
+/// and zeros; or 2, the number, its place and a zero.
 pub const ANSWER_NUMBERS: usize = 1 + VALUES;
 
 /// What each number of the answers holds before the calls.
 pub const UNSET: usize = 0x5A5A_5A5A;
 
-/// The input of a script whose calls read none.
+/// What stands in the input behind what the calls read.
 const INPUT: [u8; 12] = *b"7,2,3,AB,4,C";
 
-/// What a script is lent beside the state: bytes to read, the entries of the lists and
-/// the bytes of the outputs of all its calls, one after the other, and room for the
+/// What a script is lent beside the state: the bytes to read, the entries of the lists
+/// and the bytes of the outputs of all its calls, one after the other, and room for the
 /// answers.
 #[derive(Clone, Debug, PartialEq, Eq)]
 pub struct Lent {
@@ -32,8 +32,9 @@ impl Lent {
     pub fn to(calls: &[Call], entry: u16, byte: u8) -> Lent {
         let entries = calls.iter().map(|call| call.entries()).sum();
         let bytes = calls.iter().map(|call| call.output_bytes()).sum();
+        let read = calls.iter().flat_map(|call| call.input());
         Lent {
-            input: INPUT.to_vec(),
+            input: read.chain(INPUT).collect(),
             lists: vec![entry; entries],
             bytes: vec![byte; bytes],
             answers: vec![UNSET; ANSWER_NUMBERS * calls.len()],
@@ -51,7 +52,8 @@ impl Lent {
 fn reply(answer: &[usize]) -> Reply {
     match *answer {
         [0, first, second, third] => Ok([first, second, third]),
-        [1, number @ (1..=10 | 13), 0, 0] => Err(number as Refusal),
+        [1, number @ (1..=10 | 13 | 14 | 16), 0, 0] => refused(number as Refusal),
+        [2, number @ 15, place, 0] => Err((number as Refusal, Some(place))),
         _ => panic!("{answer:?} is no answer"),
     }
 }
@@ -93,6 +95,8 @@ impl Board {
         unsafe {
             drive(
                 self.letters.pointer(),
+                self.codes.pointer(),
+                self.lifts.pointer(),
                 self.centres.pointer(),
                 self.places.pointer(),
                 self.numbers.pointer(),
@@ -127,10 +131,9 @@ impl Board {
         assert_eq!(list.len(), call.entries(), "the list of {call:?}");
         assert_eq!(output.len(), call.output_bytes(), "the output of {call:?}");
         let mut lent = Lent {
-            input: INPUT.to_vec(),
             lists: list.to_vec(),
             bytes: output.to_vec(),
-            answers: vec![UNSET; ANSWER_NUMBERS],
+            ..Lent::to(&[call], 0, 0)
         };
         let replies = self.run(&[call], &mut lent);
         list.copy_from_slice(&lent.lists);

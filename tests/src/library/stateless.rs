@@ -1,22 +1,9 @@
-//! The calls that are given no state.
+//! Show, which is given no state.
 
 use super::guarded::Guarded;
 use super::running::UNSET;
-use crate::calls::{Answer, Refusal};
-use ::board::functions::{drive_lift, drive_show};
-
-/// The lift of a letter.
-pub fn lift(letter: u8) -> Answer<usize> {
-    let mut answer = Guarded::of(&[UNSET; 2]);
-    // Safe: the answer has its declared length.
-    unsafe { drive_lift(letter, answer.pointer()) };
-    assert!(answer.guards_hold(), "outside the answer, letter {letter}");
-    match *answer.inner() {
-        [0, lift] => Ok(lift),
-        [1, number @ 1..=10] => Err(number as Refusal),
-        ref other => panic!("{other:?} is no answer, letter {letter}"),
-    }
-}
+use crate::calls::Refusal;
+use ::board::functions::drive_show;
 
 /// Show: the companion's number, and the length of the part that is handed back,
 /// whose bytes go to the front of the lent part as far as they fit.

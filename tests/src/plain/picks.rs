@@ -1,6 +1,9 @@
 //! Picks and what each letter lifts.
 
-use crate::{FIRST_PICK, LAST_PICK};
+use crate::{FIRST_PICK, LAST_PICK, LETTERS};
+
+/// The lifts of A to Z: the fixed ones, or "the mill's own".
+pub type Lifts = [u8; LETTERS];
 
 /// "In letter order A to Z the pairs are": the two harnesses each letter lifts.
 const HARNESS_PAIRS: &str =
@@ -11,13 +14,22 @@ pub fn is_pick(byte: u8) -> bool {
     (FIRST_PICK..=LAST_PICK).contains(&byte)
 }
 
-/// "Each letter lifts two of eight harnesses; harness h is bit h-1 of a lift
-/// byte." None for a byte that is no letter.
-pub fn lift(letter: u8) -> Option<u8> {
-    let place = usize::from(letter.checked_sub(FIRST_PICK)?);
-    let pair = HARNESS_PAIRS.split(' ').nth(place)?;
-    Some(
-        pair.bytes()
-            .fold(0, |lifted, harness| lifted | 1 << (harness - b'1')),
-    )
+/// "Each letter lifts two of eight harnesses; harness h is bit h-1 of a lift byte."
+pub fn fixed_lifts() -> Lifts {
+    let mut lifts = [0; LETTERS];
+    for (lift, pair) in lifts.iter_mut().zip(HARNESS_PAIRS.split(' ')) {
+        *lift = pair.bytes().fold(0, |bits, h| bits | 1 << (h - b'1'));
+    }
+    lifts
+}
+
+/// The lift of a letter. None for a byte that is no letter.
+pub fn lift(lifts: &Lifts, letter: u8) -> Option<u8> {
+    is_pick(letter).then(|| lifts[usize::from(letter - FIRST_PICK)])
+}
+
+/// The word of a draft: the lifts of its picks, all of them letters.
+pub fn word(lifts: &Lifts, draft: &[u8]) -> Vec<u8> {
+    let lift = |&pick: &u8| lift(lifts, pick).expect("a pick is A to Z");
+    draft.iter().map(lift).collect()
 }

@@ -1,7 +1,7 @@
 //! The stored arrays by their names, and what is known of their entries.
 
 use crate::calls::State;
-use crate::MOST_PICKS;
+use crate::{LETTERS, MOST_PICKS};
 use std::collections::BTreeMap;
 
 /// A stored array: its name, its entries, and the largest number of an entry.
@@ -26,13 +26,21 @@ const fn lane(name: &'static str, length: usize) -> Array {
     }
 }
 
-/// "The arrays are `letters radius heads lends next prev rows gathered`."
-pub const ARRAYS: [Array; 8] = [
+/// An array of bytes.
+const fn bytes(name: &'static str, length: usize) -> Array {
+    let largest = u8::MAX as u16;
     Array {
-        name: "letters",
-        length: MOST_PICKS,
-        largest: u8::MAX as u16,
-    },
+        name,
+        length,
+        largest,
+    }
+}
+
+/// "The arrays are letters codes lifts radius heads lends next prev rows gathered."
+pub const ARRAYS: [Array; 10] = [
+    bytes("letters", MOST_PICKS),
+    bytes("codes", MOST_PICKS),
+    bytes("lifts", LETTERS),
     lane("radius", CENTRES),
     lane("heads", PLACES),
     lane("lends", CENTRES),
@@ -42,9 +50,6 @@ pub const ARRAYS: [Array; 8] = [
     lane("gathered", PLACES),
 ];
 
-/// The array of the letters in `ARRAYS`.
-const LETTERS: usize = 0;
-
 /// An entry that there is: the number of its array in `ARRAYS`, and its index.
 #[derive(Clone, Copy, Debug, PartialEq, Eq, PartialOrd, Ord)]
 pub struct Entry {
@@ -52,21 +57,29 @@ pub struct Entry {
     pub index: usize,
 }
 
-/// What the entries hold that nobody has poked since.
+/// The bytes of an entry's array, which are always known.
+fn bytes_of<'a>(array: usize, state: &'a mut State) -> Option<&'a mut [u8]> {
+    match ARRAYS[array].name {
+        "letters" => Some(&mut state.letters),
+        "codes" => Some(&mut state.codes),
+        "lifts" => Some(&mut state.lifts),
+        _ => None,
+    }
+}
+
+/// What the entries of the lanes hold that nobody has poked since.
 #[derive(Clone, Copy, Debug, PartialEq, Eq)]
 enum Since {
     /// "At first every stored number is 0."
     First,
     /// A start: every entry 0 but row word and gathered word of place 0, which are 1.
     Start,
-    /// A feed of a run: the letters are known, and no lane.
+    /// A feed: no lane is known.
     Feed,
-    /// A feed on a state that no run made: nothing is known.
-    AnyFeed,
 }
 
-/// What is known of the stored entries: by the last start or feed, and by the pokes
-/// after it.
+/// What is known of the stored lanes: by the last start or feed, and by the pokes after it.
+/// The bytes are known by the calls and the pokes.
 pub struct Known {
     since: Since,
     poked: BTreeMap<Entry, u16>,
@@ -85,31 +98,29 @@ impl Known {
         self.poked.clear();
     }
 
-    /// After an accepted feed, of a run or on a state that no run made.
-    pub fn feed(&mut self, by_run: bool) {
-        self.since = match by_run {
-            true => Since::Feed,
-            false => Since::AnyFeed,
-        };
+    /// After an accepted feed.
+    pub fn feed(&mut self) {
+        self.since = Since::Feed;
         self.poked.clear();
     }
 
     /// After a poke.
     pub fn poke(&mut self, entry: Entry, value: u16, state: &mut State) {
-        self.poked.insert(entry, value);
-        if entry.array == LETTERS {
-            state.letters[entry.index] = value as u8;
+        match bytes_of(entry.array, state) {
+            Some(bytes) => bytes[entry.index] = value as u8,
+            None => drop(self.poked.insert(entry, value)),
         }
     }
 
     /// The entry's number where it is known.
-    pub fn entry(&self, entry: Entry, state: &State) -> Option<u16> {
+    pub fn entry(&self, entry: Entry, state: &mut State) -> Option<u16> {
         let Entry { array, index } = entry;
+        if let Some(bytes) = bytes_of(array, state) {
+            return Some(bytes[index].into());
+        }
         let is_word = ["rows", "gathered"].contains(&ARRAYS[array].name);
         let poked = self.poked.get(&entry).copied();
         poked.or_else(|| match self.since {
-            Since::AnyFeed => None,
-            _ if array == LETTERS => Some(state.letters[index].into()),
             Since::First => Some(0),
             Since::Start => Some((is_word && index == 0).into()),
             Since::Feed => None,

@@ -19,6 +19,7 @@ pub enum Line {
         ends: Vec<u16>,
     },
     Lift(u8),
+    Load(Vec<u8>),
     Unfold {
         record: Vec<u8>,
         bytes: usize,
@@ -41,9 +42,9 @@ pub enum Line {
 }
 
 /// The word of each line.
-pub const WORDS: [&str; 18] = [
-    "start", "feed", "picks", "mask", "radius", "longest", "next", "split", "record", "show",
-    "lift", "unfold", "section", "numbers", "poke", "peek", "help", "quit",
+pub const WORDS: [&str; 19] = [
+    "start", "load", "feed", "picks", "mask", "radius", "longest", "next", "split", "record",
+    "lift", "show", "unfold", "section", "numbers", "poke", "peek", "help", "quit",
 ];
 
 /// What the line asks for, one thing after the other; none where it "is no call".
@@ -117,6 +118,12 @@ fn other(word: &[u8], arguments: &[&[u8]]) -> Option<Line> {
             ends: ends.iter().map(|end| fitting(end)).collect::<Option<_>>()?,
         },
         (b"lift", [letter]) => Line::Lift(pick(letter)?),
+        (b"load", bytes) => Line::Load(
+            bytes
+                .iter()
+                .map(|byte| fitting(byte))
+                .collect::<Option<_>>()?,
+        ),
         (b"unfold", [record, bytes @ ..]) => Line::Unfold {
             record: bytes_of(record)?,
             bytes: size(bytes, OUTPUT)?,

@@ -14,14 +14,6 @@ pub fn shown(letters: &[u8], ends: &[u16], s: usize) -> String {
     }
 }
 
-/// The lift of a letter.
-pub fn lifted(letter: u8) -> String {
-    match calls::lift(letter) {
-        Ok(lift) => ok(&[lift.into()]),
-        Err(number) => refused(number),
-    }
-}
-
 /// "`ok COUNT` and behind the bar the picks"; "behind 11 stands the place". With `--all`
 /// the whole of what was lent.
 pub fn unfolded(record: &[u8], bytes: usize, all: bool) -> String {

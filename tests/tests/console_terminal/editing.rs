@@ -120,9 +120,9 @@ fn earlier_lines() {
     let folder = Folder::new("board", "earlier");
     for (up, down) in [("\x1b[A", "\x1b[B"), ("\x1bOA", "\x1bOB"), ("\x10", "\x0e")] {
         let (up, down) = (up.as_bytes(), down.as_bytes());
-        let mut watched = Watched::new(&folder, None);
+        let mut watched = Watched::at_prompt(&folder, None);
         watched.key(&[up, down].concat(), "_");
-        for line in ["lift A", "lift B", "lift B", "lift C"] {
+        for line in ["start 8", "lift A", "lift B", "lift B", "lift C"] {
             watched.key(line.as_bytes(), &format!("{line}_"));
             watched.enter(line);
         }
@@ -136,7 +136,9 @@ fn earlier_lines() {
             (up, "lift C"),
             (up, "lift B"),
             (up, "lift A"),
-            (up, "lift A"),
+            (up, "start 8"),
+            (up, "start 8"),
+            (down, "lift A"),
         ] {
             watched.key(key, &format!("{line}_"));
         }

@@ -55,8 +55,8 @@ fn an_ignored_signal() {
         send(signal, terminal.program());
     }
     for key in [CTRL_C, CTRL_BACKSLASH, CTRL_Z] {
-        terminal.key(&[key, b"lift A\r"].concat());
-        terminal.shows("lift A\nok 3\n> ", "the answer");
+        terminal.key(&[key, b"start 8\rlift A\r"].concat());
+        terminal.shows("start 8\nok\n> lift A\nok 3\n> ", "the answers");
         terminal.await_keys(false);
     }
     terminal.key(CTRL_D);
@@ -147,8 +147,8 @@ fn a_console_begun_in_the_background() {
     terminal.key(ENTER);
     terminal.shows("\n> ", "the prompt");
     terminal.await_keys(false);
-    terminal.key(b"lift A\r");
-    terminal.shows("lift A\nok 3\n> ", "the answer");
+    terminal.key(b"start 8\rlift A\r");
+    terminal.shows("start 8\nok\n> lift A\nok 3\n> ", "the answers");
     terminal.key(CTRL_D);
     assert_eq!(terminal.end(0, "continued"), "\n");
 }

@@ -3,6 +3,7 @@
 use comparison::library::Board;
 use comparison::samples::Generator;
 use comparison::structured::broken_periods;
+use comparison::tables::some_lifts;
 use comparison::{MOST_PICKS, MOST_SECTIONS};
 
 /// Any number: small, near the arrays' lengths, or of any size.
@@ -34,18 +35,24 @@ pub fn any_state(generator: &mut Generator) -> Board {
     board
 }
 
-/// The state of a true draft with some entries changed, and now and then a number.
+/// The state of a true draft, under the fixed lifts or others, with some entries changed,
+/// and now and then a number.
 pub fn spoiled_state(generator: &mut Generator) -> Board {
     let length = generator.below(MOST_PICKS + 1);
-    let draft = broken_periods(generator, 2, length);
-    let mut board = Board::fed(&draft, 1 + generator.below(MOST_SECTIONS));
+    let draft = broken_periods(generator, 3, length);
+    let most_sections = 1 + generator.below(MOST_SECTIONS);
+    let mut board = match generator.below(2) {
+        0 => Board::fed(&draft, most_sections),
+        _ => Board::fed_under(&some_lifts(generator), &draft, most_sections),
+    };
     for lane in board.lanes_mut() {
         for _ in 0..generator.below(20) {
             lane[generator.below(lane.len())] = any_number(generator) as u16;
         }
     }
-    let letters = board.letters_mut();
-    letters[generator.below(MOST_PICKS)] = generator.below(256) as u8;
+    for bytes in board.bytes_mut() {
+        bytes[generator.below(bytes.len())] = generator.below(256) as u8;
+    }
     if generator.below(4) == 0 {
         let (n, longest) = (generator.below(MOST_PICKS + 1), any_number(generator));
         board.store(n, board.most_sections(), longest);

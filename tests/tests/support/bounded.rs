@@ -4,33 +4,31 @@
 mod told;
 
 use comparison::beside::{BYTE, ENTRY};
-use comparison::calls::Refusal;
+use comparison::calls::{Placed, Refusal};
 use comparison::library::Board;
 use comparison::listed::{found, listed};
-use comparison::plain::{are_ends, turn_count};
-use comparison::scripted::{Call, Reply, VALUES};
+use comparison::plain::{self, are_ends, turn_count, Lifts};
+use comparison::scripted::{number_of, Call, Reply, VALUES};
 use comparison::VISIT_ROOM;
 use std::fmt::Display;
 pub use told::is_told;
 
 /// Makes a call on any stored state. "There 1 to 4 and 8 still hold, and beyond them
 /// the call need only end within bounds." A refusal keeps every byte, and so does a
-/// reading call of the state; an accepted call keeps the entries past those named, and an
-/// accepted split counts the turns of the ends that it gives. Gives the number that it is
-/// refused with.
+/// reading call of the state; an accepted call keeps the entries past those named, an
+/// accepted split counts the turns of the ends that it gives, and the stored picks and lifts
+/// are as the call leaves them. Gives the number that it is refused with.
 pub fn make_within_bounds(board: &mut Board, call: Call, step: impl Display) -> Option<Refusal> {
-    let (n, most_sections) = (board.n(), board.most_sections());
+    let (n, most_sections, lifts) = (board.n(), board.most_sections(), board.lifts());
     let case = || format!("{call:?}, n {n}, K {most_sections}, {step}");
     let number = listed(call, n, most_sections);
-    let before = (number.is_some() || call.only_reads()).then(|| board.clone());
+    let left = left(board, call, number.is_some());
     let mut list = vec![ENTRY; call.entries()];
     let mut output = vec![BYTE; call.output_bytes()];
     let reply = board.make(call, &mut list, &mut output);
-    let possible = is_possible(reply, number, call, n);
+    let possible = is_possible(reply, number, call, (n, &lifts));
     assert!(possible, "{reply:?}, {}", case());
-    if let Some(before) = before {
-        assert!(*board == before, "a byte of the state changed, {}", case());
-    }
+    assert!(left.is(board), "a byte of the state changed, {}", case());
     let [entries, bytes] = named(call, reply);
     let fit = entries <= list.len() && bytes <= output.len();
     assert!(fit, "more than is lent: {reply:?}, {}", case());
@@ -43,27 +41,80 @@ pub fn make_within_bounds(board: &mut Board, call: Call, step: impl Display) -> 
     let stored = [board.n(), board.most_sections()];
     let expected = numbers_after(call, reply, [n, most_sections]);
     assert_eq!(stored, expected, "stored n and K, {}", case());
-    reply.err()
+    number_of(reply)
 }
 
-/// Whether a call can reply so on a state of n picks: with the listed number; where none
-/// is listed, it is accepted, or refused by what it finds.
-fn is_possible(reply: Reply, number: Option<Refusal>, call: Call, n: usize) -> bool {
+/// The stored n and the stored lifts before a call.
+type Stored<'a> = (usize, &'a Lifts);
+
+/// Whether a call can reply so on a state: with the listed number; where none is listed, it
+/// is accepted, or refused by what it finds.
+fn is_possible(reply: Reply, number: Option<Placed>, call: Call, stored: Stored) -> bool {
     match (reply, number) {
         (Err(given), Some(number)) => given == number,
         (Ok(_), Some(_)) => false,
-        (Err(given), None) => found(call).contains(&given),
-        (Ok(values), None) => are_possible(values, call, n),
+        (Err((given, place)), None) => found(call).contains(&given) && place.is_none(),
+        (Ok(values), None) => are_possible(values, call, stored),
     }
 }
 
 /// Whether an accepted call can give these values: a count of visits is 19 at most, what
-/// is told of an ending is as it always is, and there is no value more.
-fn are_possible(values: [usize; VALUES], call: Call, n: usize) -> bool {
+/// is told of an ending is as it always is, a lift is the stored one, and there is no value
+/// more.
+fn are_possible(values: [usize; VALUES], call: Call, (n, lifts): Stored) -> bool {
     match (call, values) {
         (Call::NextEnding { centre }, _) => is_told(values, usize::from(centre), n),
+        (Call::Lift { letter }, _) => values == [lift_by(lifts, letter).into(), 0, 0],
+        (Call::Load { .. }, _) => values == [0; VALUES],
         (Call::Feed { .. }, [_, visits, 0]) => visits <= VISIT_ROOM,
         (_, [_, second, third]) => [second, third] == [0, 0],
+    }
+}
+
+/// The lift of a letter by the stored lifts.
+fn lift_by(lifts: &Lifts, letter: u8) -> u8 {
+    plain::lift(lifts, letter).expect("a letter")
+}
+
+/// What a call must leave of the state: all of it, or the stored letters, codes and lifts.
+enum Left {
+    State(Board),
+    Bytes([Vec<u8>; 2], Lifts),
+}
+
+/// What is refused or only reads changes no byte, and a load the lifts alone; an accepted
+/// start leaves what a start on zeros does. An accepted feed stores its pick and the lift
+/// that is stored for it, and no other letter, code or lift.
+fn left(board: &Board, call: Call, refused: bool) -> Left {
+    match call {
+        Call::Start { most_sections } if !refused => {
+            Left::State(Board::started(most_sections.into()))
+        }
+        Call::Load { table } if !refused => {
+            let mut loaded = board.clone();
+            loaded.lifts_mut().copy_from_slice(&table.lifts);
+            Left::State(loaded)
+        }
+        Call::Feed { pick, .. } if !refused => {
+            let lifts = board.lifts();
+            let mut picks = board.stored_picks().map(<[u8]>::to_vec);
+            picks[0][board.n()] = pick;
+            picks[1][board.n()] = lift_by(&lifts, pick);
+            Left::Bytes(picks, lifts)
+        }
+        _ => Left::State(board.clone()),
+    }
+}
+
+impl Left {
+    /// Whether the state is so.
+    fn is(&self, board: &Board) -> bool {
+        match self {
+            Left::State(state) => board == state,
+            Left::Bytes([letters, codes], lifts) => {
+                board.stored_picks() == [letters, codes] && board.lifts() == *lifts
+            }
+        }
     }
 }
 

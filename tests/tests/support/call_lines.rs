@@ -3,6 +3,7 @@
 use comparison::records::{fields_of, random_lengths, record_of};
 use comparison::samples::Generator;
 use comparison::spoken::{text_of, Console};
+use comparison::tables::some_table;
 
 /// Numbers beyond a byte, beyond two bytes, and the largest of a machine word.
 const FAR: [&str; 8] = [
@@ -32,9 +33,13 @@ pub fn session(opening: &str, count: usize, mut line: impl FnMut(usize) -> Strin
     input
 }
 
-/// A line of some call on a draft of n picks. Starts are few, so that the draft grows.
+/// A line of some call on a draft of n picks. Starts are few, so that the draft grows; loads
+/// are many while it is empty.
 pub fn some_call(generator: &mut Generator, n: usize) -> String {
-    match generator.below(36) {
+    if n == 0 && generator.below(4) == 0 {
+        return load(&some_table(generator).bytes());
+    }
+    match generator.below(39) {
         0 => format!("start {}", some_number(generator, 10)),
         1..=10 => some_feed(generator),
         11..=12 => format!("mask {}", some_prefix(generator, n)),
@@ -46,8 +51,15 @@ pub fn some_call(generator: &mut Generator, n: usize) -> String {
         29..=30 => some_show(generator),
         31..=33 => some_unfold(generator),
         34 => some_section(generator),
+        35 => load(&some_table(generator).bytes()),
         _ => format!("lift {}", some_number(generator, 100)),
     }
+}
+
+/// A load of this table.
+fn load(table: &[u8]) -> String {
+    let bytes: String = table.iter().map(|byte| format!(" {byte}")).collect();
+    format!("load{bytes}")
 }
 
 /// A number below the bound, or now and then a far one.

@@ -9,7 +9,8 @@ use comparison::beside::ENTRY;
 use comparison::calls::Taken;
 use comparison::fast::Fast;
 use comparison::library::Board;
-use comparison::scripted::{given, Call};
+use comparison::plain;
+use comparison::scripted::{given, refused, Call};
 use visited::assert_visits_lead_on;
 pub use words::compare_words;
 
@@ -40,12 +41,14 @@ pub fn feed_compared(board: &mut Board, fast: &Fast, pick: u8, name: &str) {
     assert_visits_lead_on(board, &list[..expected.visits], name);
 }
 
-/// Compares all that is kept after n picks: the letters, the longest ending's centre,
-/// every row word, gathered word, mask, radius and next ending. Asking changes nothing.
+/// Compares all that is kept after n picks: the letters, the lift of each by the lifts in
+/// force, the longest ending's centre, every row word, gathered word, mask, radius and next ending. Asking changes nothing.
 pub fn compare_all(board: &mut Board, fast: &Fast, draft: &[u8], name: &str) {
     let n = board.n();
     let name = format!("{name}, after {n}");
     assert!(board.letters() == &draft[..n], "{name}, letters");
+    let word = plain::word(&board.lifts(), &draft[..n]);
+    assert!(board.codes() == word, "{name}, codes");
     let before = board.clone();
     let longest = fast.longest_centre(n);
     assert_eq!(board.longest_centre(), Ok(longest), "{name}, longest");
@@ -77,8 +80,8 @@ fn compare_centres(board: &mut Board, fast: &Fast, name: &str) {
         let centre = at + 1;
         let radius = given([fast.radius(n, centre)]);
         assert_eq!(pair[0], radius, "{name}, radius at {centre}");
-        let next = fast.next_ending(n, centre).ok_or(10);
-        let next = next.and_then(|next| given(next.values()));
+        let next = fast.next_ending(n, centre);
+        let next = next.map_or(refused(10), |next| given(next.values()));
         assert_eq!(pair[1], next, "{name}, next at {centre}");
     }
 }

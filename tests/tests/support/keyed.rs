@@ -58,6 +58,9 @@ pub fn in_second_line(folder: &Folder) -> Terminal<'_> {
     terminal
 }
 
+/// The line that begins a session in which letters have lifts.
+const START: &str = "start 8";
+
 /// A terminal of this width, and what it has shown so far.
 pub struct Watched<'a> {
     terminal: Terminal<'a>,
@@ -66,9 +69,17 @@ pub struct Watched<'a> {
 }
 
 impl Watched<'_> {
-    /// The script, with its prompt shown, at a terminal that has, or names no, number of
-    /// columns.
+    /// The script at a terminal that has, or names no, number of columns, with a start that
+    /// has been answered.
     pub fn new(folder: &Folder, columns: Option<usize>) -> Watched<'_> {
+        let mut watched = Watched::at_prompt(folder, columns);
+        watched.key(START.as_bytes(), &format!("{START}_"));
+        watched.enter(START);
+        watched
+    }
+
+    /// The script, with its prompt shown, and no line keyed.
+    pub fn at_prompt(folder: &Folder, columns: Option<usize>) -> Watched<'_> {
         let size = columns.map_or(String::new(), |columns| format!("stty cols {columns};"));
         let command = format!("{size} exec ./board");
         Watched {
@@ -93,14 +104,18 @@ impl Watched<'_> {
     }
 
     /// Keys Enter. This line, as it was keyed, and its answer are then the last rows; the
-    /// answer is one that follows from the line alone.
+    /// answer is one that follows from a start and the line alone.
     pub fn enter(&mut self, line: &str) {
         self.terminal.key(b"\r");
         self.shown += &self
             .terminal
             .read_until(line, |more| more.ends_with("\n> "));
         let rows = Screen::of(&self.shown, self.width).rows();
-        let expected = Screen::of(&format!("{PROMPT}{}", session(line.as_bytes())), self.width);
+        let both = session(format!("{START}\n{line}").as_bytes());
+        let behind = both
+            .strip_prefix(&session(START.as_bytes()))
+            .expect("two lines");
+        let expected = Screen::of(&format!("{PROMPT}{behind}"), self.width);
         let last = rows.len() - expected.rows().len();
         assert_eq!(rows[last..], expected.rows(), "{line}");
     }

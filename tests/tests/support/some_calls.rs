@@ -2,11 +2,20 @@
 
 use comparison::samples::Generator;
 use comparison::scripted::Call;
+use comparison::tables::some_table;
 
-/// A call on a draft of about n picks. Starts are few, so that the draft grows.
+/// A call on a draft of about n picks. Starts are few, so that the draft grows; loads are
+/// many while it is empty.
 pub fn some_call(generator: &mut Generator, n: usize) -> Call {
-    match generator.below(24) {
+    if n == 0 && generator.below(3) == 0 {
+        return some_load(generator);
+    }
+    match generator.below(27) {
         0 => some_start(generator),
+        24 => some_load(generator),
+        25..=26 => Call::Lift {
+            letter: some_pick(generator),
+        },
         1..=9 => some_feed(generator),
         10..=13 => Call::Split {
             prefix: some_prefix(generator, n),
@@ -31,23 +40,34 @@ pub fn some_call(generator: &mut Generator, n: usize) -> Call {
     }
 }
 
+/// Good tables and bad ones.
+fn some_load(generator: &mut Generator) -> Call {
+    let table = some_table(generator);
+    Call::Load { table }
+}
+
 fn some_start(generator: &mut Generator) -> Call {
     let most_sections = [generator.below(11), generator.below(256)][generator.below(2)] as u8;
     Call::Start { most_sections }
 }
 
-/// A list of 0 to 24 entries, mostly of 19 or more, and A, B or C mostly.
+/// A list of 0 to 24 entries, mostly of 19 or more.
 fn some_feed(generator: &mut Generator) -> Call {
     let entries = match generator.below(8) {
         0 => generator.below(25),
         _ => 19 + generator.below(6),
     } as u16;
-    let pick = match generator.below(12) {
+    let pick = some_pick(generator);
+    Call::Feed { pick, entries }
+}
+
+/// A, B or C mostly.
+fn some_pick(generator: &mut Generator) -> u8 {
+    match generator.below(12) {
         0 => [0, 10, 64, 91, 97, 255][generator.below(6)],
         1 => generator.below(256) as u8,
         at => b"AAAABBBBCZ"[at - 2],
-    };
-    Call::Feed { pick, entries }
+    }
 }
 
 /// A count of sections: 0 to 9, or now and then any byte.

@@ -11,26 +11,33 @@ use Rattle.speed.proofs.feed_all.Statement.{statement}
 use Rattle.speed.proofs.feed_all.Tie as tie
 
 abbrev Inv-loop : tie.InvT-loop
-Inv-loop letters₀ centres₀ places₀ visits₀ picks masks₀ held₀ i₀ letters centres places visits masks held i =
+Inv-loop letters₀ codes₀ lifts centres₀ places₀ visits₀ picks masks₀ held₀ i₀ letters codes centres places visits masks held i =
     (length visits ≡ length visits₀) × (length masks ≡ length masks₀) × (i ≤ length picks)
-    × Reaches (draftIn (record { n = 0; k = 8; longest = record { 0 = 1 } }) letters₀ (byCentre centres₀) (byPlace places₀)) picks masks₀
-    i (draftIn held letters (byCentre centres) (byPlace places)) masks
+    × Reaches (draftIn (record { n = 0; k = 8; longest = record { 0 = 1 } }) letters₀ codes₀ lifts (byCentre centres₀) (byPlace places₀)) picks masks₀
+    i (draftIn held letters codes lifts (byCentre centres) (byPlace places)) masks
 
 abbrev μ-loop : tie.MeasureT-loop
-μ-loop letters₀ centres₀ places₀ visits₀ picks masks₀ held₀ i₀ letters centres places visits masks held i = length picks - i
+μ-loop letters₀ codes₀ lifts centres₀ places₀ visits₀ picks masks₀ held₀ i₀ letters codes centres places visits masks held i = length picks - i
 
 loop-holds : tie.Need-loop-holds Inv-loop μ-loop
 loop-holds c = (refl, refl, omega arith, record { told = _; feeds = none; count = refl; stored = refl })
+
+add-i : tie.Need-add-i Inv-loop μ-loop
+add-i c =
+    let f = c .before .before .before .before .before .before .before .before in
+    let l = f .before .before .before .before .before .before .before in
+    let s = l .before .before .before .before .before in
+    record { fits = omega (arith, l .loop-test .taken, s .good .1 .1 .1 .1 .1 .1 .0 .0) }
 
 loop-again : tie.Need-loop-again Inv-loop μ-loop
 loop-again c =
     let s = c .before .before .before in
     let m = s .before in
     let f = c .before .before .before .before .before .before .before .before in
-    let l = f .before .before .before .before .before .before in
+    let l = f .before .before .before .before .before .before .before in
     let o = l .before .loop in
     let a = l .before .before .before .before .before .args in (
-      f .feed .kept .1 .1 .1 .0 ∙ o .inv .0,
+      f .feed .kept .1 .1 .1 .1 .1 .0 ∙ o .inv .0,
       s .store-byte .kept .0 ∙ o .inv .1,
       omega (arith, l .loop-test .taken),
       reaches-more (a .picks .now) (a .masks .now) (o .i) (m .mask-of .result) (l .loop-test .taken) (o .inv .3) (f .feed .ensures)
@@ -61,7 +68,7 @@ feed-all-spec =
     (λ c κs. tt)
     (λ c κs. tt)
     (λ c κs. tt)
-    (λ c. omega arith)
+    add-i
     (λ c. omega arith)
     loop-again
     (λ c. search needs)

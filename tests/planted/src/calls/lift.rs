@@ -1,17 +1,16 @@
-//! The lift of a letter.
+//! The lift of a letter, by the table in force.
 
-use crate::cells::{at, FIRST_LETTER};
+use crate::cells::{at, Lifts, Numbers, FIRST_LETTER};
 use crate::refusals::lift_refusal;
 use crate::state::Answer;
 
-/// The lifts of A to Z: two of eight harnesses each.
-const LIFTS: [u8; 26] = [
-    3, 5, 9, 17, 33, 65, 129, 6, 10, 18, 34, 66, 130, 12, 20, 36, 68, 132, 24, 40, 72, 136, 48, 80,
-    144, 96,
-];
+/// The lift of a letter A to Z.
+pub fn lift_in(lifts: &Lifts, letter: u8) -> u8 {
+    at(lifts, usize::from(letter.wrapping_sub(FIRST_LETTER)))
+}
 
 /// The harnesses that a letter lifts, as bits.
-pub fn lift(letter: u8) -> Answer<u8> {
-    lift_refusal(letter)?;
-    Ok(at(&LIFTS, usize::from(letter.wrapping_sub(FIRST_LETTER))))
+pub fn lift(lifts: &Lifts, held: Numbers, letter: u8) -> Answer<u8> {
+    lift_refusal(held, letter)?;
+    Ok(lift_in(lifts, letter))
 }

@@ -1,13 +1,20 @@
 //! Start: K, giving an empty draft.
 
-use crate::cells::{store_at_place, Centre, Numbers, Place, GATHERED, HEADS, ROWS};
+use crate::cells::{store_at_place, Centre, Lifts, Numbers, Place, GATHERED, HEADS, ROWS};
 use crate::cells::{LENDS, NEXT, PREV, RADIUS};
 use crate::refusals::start_refusal;
 use crate::state::{Answer, State};
 
-/// The arrays of no letter: the iterator's are 0.
+/// The fixed lifts of A to Z: two of eight harnesses each.
+const LIFTS: Lifts = [
+    3, 5, 9, 17, 33, 65, 129, 6, 10, 18, 34, 66, 130, 12, 20, 36, 68, 132, 24, 40, 72, 136, 48, 80,
+    144, 96,
+];
+
+/// The arrays of no letter: letters, codes and the iterator's are 0.
 fn clear_iterator(state: &mut State) {
     state.letters.fill(0);
+    state.codes.fill(0);
     state.centres[RADIUS].fill(0);
     state.centres[LENDS].fill(0);
     state.centres[NEXT].fill(0);
@@ -23,11 +30,12 @@ fn clear_words(state: &mut State) {
     store_at_place(state.places, GATHERED, Place(0), 1);
 }
 
-/// A start with K on whatever is stored.
+/// A start with K on whatever is stored: the fixed lifts are in force.
 pub fn start(state: &mut State, sections: usize) -> Answer<()> {
     start_refusal(sections)?;
     clear_iterator(state);
     clear_words(state);
+    *state.lifts = LIFTS;
     state.numbers = Numbers {
         n: 0,
         k: sections,

@@ -13,9 +13,10 @@ pub struct Appended {
     pub longest: Centre,
 }
 
-/// One pick more after n of them. The lengths of its visits go to the front of the list.
-pub fn append(state: &mut State, pick: u8, visits: &mut [u16]) -> Appended {
-    let longest = iterator::append::append(state, pick);
+/// One pick more after n of them, by its code. The lengths of its visits go to the front of
+/// the list.
+pub fn append(state: &mut State, code: u8, visits: &mut [u16]) -> Appended {
+    let longest = iterator::append::append(state, code);
     let new = Numbers {
         n: state.numbers.n + 1,
         k: state.numbers.k,

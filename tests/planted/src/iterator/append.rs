@@ -12,11 +12,11 @@ fn lost_place(n: usize, s: Centre) -> Place {
     Place(s.0.saturating_sub(n + 1))
 }
 
-/// One letter more after n of them. Gives the centre of the longest ending.
-pub fn append(state: &mut State, pick: u8) -> Centre {
+/// One code more after n of them. Gives the centre of the longest ending.
+pub fn append(state: &mut State, code: u8) -> Centre {
     let n = state.numbers.n;
-    let s = scan(state, longest(state.numbers), pick);
-    store_letter(state.letters, Place(n), pick);
+    let s = scan(state, longest(state.numbers), code);
+    store_letter(state.codes, Place(n), code);
     link(state.centres, Centre(2 * n + 1), Centre(2 * n + 2));
     link(state.centres, Centre(2 * n + 2), Centre(2 * n + 3));
     let head = at_place(&state.places[HEADS], lost_place(n, s));

@@ -10,10 +10,10 @@ fn start(c: Centre, r: usize) -> Place {
     Place(((c.0 + 1) / 2).saturating_sub(r + 1))
 }
 
-/// Whether the stretch closes the n letters and the letter before it is the new one.
-fn extends(letters: &Letters, n: usize, c: Centre, r: usize, pick: u8) -> bool {
+/// Whether the stretch closes the n codes and the code before it is the new one.
+fn extends(codes: &Letters, n: usize, c: Centre, r: usize, code: u8) -> bool {
     let i = start(c, r).0;
-    c.0 / 2 + r == n && 0 < i && letter_after(letters, Place(i - 1)) == pick
+    c.0 / 2 + r == n && 0 < i && letter_after(codes, Place(i - 1)) == code
 }
 
 /// Puts c in front of the lend list of the place where its stretch of radius r starts.
@@ -25,13 +25,13 @@ fn lend(state: &mut State, c: Centre, r: usize) {
 }
 
 /// The loop of Manacher's kind: the centre of the longest ending moves on from `from` to
-/// where the new letter leaves one.
-pub fn scan(state: &mut State, from: Centre, pick: u8) -> Centre {
+/// where the new code leaves one.
+pub fn scan(state: &mut State, from: Centre, code: u8) -> Centre {
     let n = state.numbers.n;
     let mut c = from;
     while c.0 < 2 * n + 2 {
         let r = reflected_radius(&state.centres[RADIUS], n, from, c);
-        if extends(state.letters, n, c, r, pick) {
+        if extends(state.codes, n, c, r, code) {
             store_at_centre(state.centres, RADIUS, c, r + 1);
             return c;
         }

@@ -1,9 +1,11 @@
 //! One call, by its number.
 
 use super::request::Request;
-use super::told::{next_told, nothing_told, taken_told, value_told, Told};
+use super::told::{load_told, next_told, nothing_told, taken_told, value_told, Told};
 use crate::calls::feed::feed;
 use crate::calls::fold::fold;
+use crate::calls::lift::lift;
+use crate::calls::load::load;
 use crate::calls::longest::longest;
 use crate::calls::mask::mask;
 use crate::calls::next::next;
@@ -18,6 +20,7 @@ pub struct Turn {
     pub told: Told,
     pub entries: usize,
     pub output: usize,
+    pub input: usize,
 }
 
 /// A call that was lent nothing.
@@ -26,15 +29,15 @@ fn plain(told: Told) -> Turn {
         told,
         entries: 0,
         output: 0,
+        input: 0,
     }
 }
 
 /// A call that was lent a list of so many entries.
 fn listed(told: Told, entries: usize) -> Turn {
     Turn {
-        told,
         entries,
-        output: 0,
+        ..plain(told)
     }
 }
 
@@ -60,10 +63,25 @@ fn fold_on(state: &State, bytes: &mut [u8], q: Request) -> Option<Turn> {
     let (held, i) = (state.numbers, Place(q.x));
     let size = fold(state.letters, rows, radius, held, i, q.b, output);
     Some(Turn {
-        told: value_told(size),
-        entries: 0,
         output: q.m,
+        ..plain(value_told(size))
     })
+}
+
+/// Loads the table of the first m bytes of the input.
+fn load_on(state: &mut State, input: &[u8], q: Request) -> Option<Turn> {
+    let table = input.get(..q.m)?;
+    let loaded = load(state.lifts, state.numbers, table);
+    Some(Turn {
+        input: q.m,
+        ..plain(load_told(loaded))
+    })
+}
+
+/// The lift of letter b.
+fn lift_on(state: &State, q: Request) -> Turn {
+    let lift = lift(state.lifts, state.numbers, q.b as u8);
+    plain(value_told(lift.map(usize::from)))
 }
 
 /// The centre of the longest ending.
@@ -90,9 +108,15 @@ fn next_on(state: &State, q: Request) -> Turn {
     plain(next_told(shorter))
 }
 
-/// Makes the call of a request; lists and bytes are what is left to lend. None where
+/// Makes the call of a request; input, lists and bytes are what is left to lend. None where
 /// there is no such call or too little is left.
-pub fn make(state: &mut State, lists: &mut [u16], bytes: &mut [u8], q: Request) -> Option<Turn> {
+pub fn make(
+    state: &mut State,
+    input: &[u8],
+    lists: &mut [u16],
+    bytes: &mut [u8],
+    q: Request,
+) -> Option<Turn> {
     match q.op {
         0 => Some(plain(nothing_told(start(state, q.b)))),
         1 => feed_on(state, lists, q),
@@ -102,6 +126,8 @@ pub fn make(state: &mut State, lists: &mut [u16], bytes: &mut [u8], q: Request) 
         5 => Some(radius_on(state, q)),
         6 => Some(next_on(state, q)),
         7 => fold_on(state, bytes, q),
+        8 => Some(lift_on(state, q)),
+        9 => load_on(state, input, q),
         _ => None,
     }
 }

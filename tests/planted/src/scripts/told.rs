@@ -1,9 +1,9 @@
-//! An answer in four numbers: 0 and up to three values, or 1, the number of the refusal
-//! and zeros.
+//! An answer in four numbers: 0 and up to three values; 1, the number of the refusal and
+//! zeros; or 2, the number, its place and a zero.
 
 use crate::calls::feed::Taken;
 use crate::iterator::reading::Shorter;
-use crate::state::Answer;
+use crate::state::{Answer, LoadAnswer};
 
 /// The numbers of an answer.
 pub const ANSWER_NUMBERS: usize = 4;
@@ -22,6 +22,15 @@ pub fn nothing_told(answer: Answer<()>) -> Told {
 /// An answer that has one value.
 pub fn value_told(answer: Answer<usize>) -> Told {
     answer.map_or_else(refused, |value| [0, value, 0, 0])
+}
+
+/// The answer of a load.
+pub fn load_told(answer: LoadAnswer) -> Told {
+    match answer {
+        LoadAnswer::InForce => [0, 0, 0, 0],
+        LoadAnswer::Refused(number) => refused(number),
+        LoadAnswer::RefusedAt(number, place) => [2, usize::from(number), place, 0],
+    }
 }
 
 /// The answer of a feed.

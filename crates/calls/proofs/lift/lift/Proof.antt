@@ -1,32 +1,36 @@
 use borrow.Author.Needs.{needs}
+use mathlib.Core.Path.{sym, ap, _∙_}
+use mathlib.Core.List.{[], _∷_}
 use native.Mathlib.Omega.{arith}
-use mathlib.Core.Path.{refl}
+use Rattle.promises.specs.Lifts.{liftIn}
+use Rattle.promises.specs.Book.{lift, lent}
+use Rattle.promises.specs.Replies.{gives, refusalOf}
 use Rattle.promises.specs.RefusalLaws.{lift-fits}
-use Rattle.promises.specs.LentLaws.{lift-refused, lift-given}
+use Rattle.promises.specs.Promises.{foundIn}
+use Rattle.promises.specs.LentLaws.{refused-on, given-on}
 use Rattle.calls.proofs.lift.lift.Statement.{statement}
 use Rattle.calls.proofs.lift.lift.Tie as tie
 
 returns : tie.Need-returns
+unfolding refusalOf lent
 returns c =
+    let a = c .before .before .args in
     let f = c .before .lift-refusal in
-    lift-refused (c .before .before .args .letter) (f .result) (f .ensures) (c .if1 .taken)
+    refused-on (a .held) _ (lift (a .letter)) (f .result) (f .ensures) (c .if1 .taken)
 
-sub-at : tie.Need-sub-at
-sub-at c =
+lift-in-requires : tie.Need-lift-in-requires
+lift-in-requires c κs =
+    let a = c .before .before .args in
     let f = c .before .lift-refusal in
-    let g = lift-fits (c .before .before .args .letter) (omega (arith, f .ensures, c .if1 .left)) in
-    omega (arith, g)
-
-array-read-t5 : tie.Need-array-read-t5
-array-read-t5 c =
-    let f = c .before .lift-refusal in
-    let g = lift-fits (c .before .before .args .letter) (omega (arith, f .ensures, c .if1 .left)) in
-    omega (arith, g)
+    lift-fits (a .held .n) (a .held .k) (a .letter) (omega (arith, f .ensures, c .if1 .left))
 
 returns-2 : tie.Need-returns-2
+unfolding refusalOf foundIn
 returns-2 c =
-    let f = c .before .lift-refusal in
-    lift-given (c .before .before .args .letter) (f .result) (f .ensures) (c .if1 .left) _ refl
+    let a = c .before .before .before .args in
+    let f = c .before .before .lift-refusal in
+    given-on (a .held) _ (lift (a .letter)) (f .result) (f .ensures) (c .before .if1 .left) _ (λ d h p.
+    ap (λ x. gives (x ∷ [])) (c .lift-in .ensures ∙ ap (λ t. liftIn t (a .letter)) (sym p)))
 
 pub lift-spec : {M : Type 1} → statement M
-lift-spec = tie.close (tie.spec (λ c κs. search needs) returns sub-at (λ c. search needs) array-read-t5 returns-2)
+lift-spec = tie.close (tie.spec (λ c κs. search needs) returns lift-in-requires returns-2)

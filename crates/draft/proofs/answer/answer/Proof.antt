@@ -8,14 +8,14 @@ use Rattle.draft.proofs.answer.answer.Tie as tie
 tell-requires : tie.Need-tell-requires
 tell-requires c κs =
     let f = c .before .before in
-    let s = f .before .before .before .before .before .before in
+    let s = f .before .before .before .before .before .before .before in
     (s .pre .0, omega (arith, s .pre .0, fed-bound (f .feed .ensures)), s .pre .1)
 
 returns : tie.Need-returns
 returns c =
     let t = c .before .before in
     let f = t .before .before .before in
-    let s = f .before .before .before .before .before .before in (
+    let s = f .before .before .before .before .before .before .before in (
       t .tell .ensures .counts,
       rw (t .tell .ensures .numbers) (fills (f .feed .ensures) (s .args .held .n) (f .feed .result) (t .tell .result) _ refl refl refl refl (t .tell .ensures)),
     )

@@ -1,23 +1,26 @@
 use borrow.Author.Needs.{needs}
+use mathlib.Core.Path.{refl}
 use native.Mathlib.Omega.{arith}
+use Rattle.promises.specs.BookLaws.{none-left}
 use Rattle.drive.specs.Script.{callOn, sourceOf, sourceAt}
-use Rattle.drive.specs.Requests.{above}
-use Rattle.drive.specs.Calling.{none-left, start-makes, feed-makes}
+use Rattle.drive.specs.Requests.{above, below}
+use Rattle.drive.specs.Calling.{start-makes, feed-makes, load-makes}
 use Rattle.drive.proofs.make.call.Statement.{statement}
 use Rattle.drive.proofs.make.call.Tie as tie
 
 ask-requires : tie.Need-ask-requires
 ask-requires c κs =
-    let t = c .before .before .before .before .before in
-    let s = t .before .before .before in
-    (above (above (omega arith) (t .match .rest .0 .1)) (t .match .rest .1), s .pre)
+    let t = c .before .before .before .before .before .before in
+    let s = t .before .before .before .before in
+    let x = t .match .rest in
+    (above (above (omega arith) (x .0 .0 .1)) (x .0 .1), below (omega (arith, s .pre .known)) (x .1), s .pre)
 
 returns : tie.Need-returns
 unfolding callOn sourceOf sourceAt
-returns c input =
+returns c =
     let r = c .before in
-    let t = r .before .before .before .before in
-    let s = t .before .before .before in
+    let t = r .before .before .before .before .before .before in
+    let s = t .before .before .before .before in
     let a = s .args in
     rw (t .match .keys1, c .begun .ensures .1)
     (start-makes (r .start .ensures) (c .begun .ensures .0)
@@ -25,19 +28,30 @@ returns c input =
 
 returns-2 : tie.Need-returns-2
 unfolding callOn sourceOf sourceAt
-returns-2 c input =
+returns-2 c =
     let r = c .before .before .before in
-    let t = r .before .before .before .before .before in
-    let s = t .before .before .before in
+    let t = r .before .before .before .before .before .before .before in
+    let s = t .before .before .before .before in
     let a = s .args in
     rw (t .match .keys2, c .fed .ensures .1)
     (feed-makes (r .feed .ensures) (c .fed .ensures .0) (none-left (a .output .now) (rw (t .match .keys2) at (s .pre .bytes))))
 
 returns-3 : tie.Need-returns-3
-returns-3 c input = c .before .before .before .before .ask .ensures input
+unfolding callOn sourceOf sourceAt
+returns-3 c =
+    let r = c .before in
+    let t = r .before .before in
+    let s = t .before .before .before .before in
+    let a = s .args in
+    rw (t .match .keys3, c .loaded .ensures .1)
+    (load-makes (r .load .ensures _ refl refl) (c .loaded .ensures .0)
+    (none-left (a .list .now) (rw (t .match .keys3) at (s .pre .entries))) (none-left (a .output .now) (rw (t .match .keys3) at (s .pre .bytes))))
+
+returns-4 : tie.Need-returns-4
+returns-4 c = c .before .before .before .before .ask .ensures _ _
 
 pub call-spec : {M : Type 1} → statement M
 call-spec =
     tie.close
-    (tie.spec (λ c κs. search needs) (λ c κs. search needs) (λ c κs. search needs) (λ c κs. search needs) ask-requires returns
-    (λ c. search needs) returns-2 (λ c. search needs) (λ c. search needs) returns-3)
+    (tie.spec (λ c κs. search needs) (λ c κs. search needs) (λ c κs. search needs) (λ c κs. search needs) (λ c κs. search needs) (λ c κs. search needs)
+    ask-requires returns (λ c. search needs) returns-2 returns-3 (λ c. search needs) (λ c. search needs) returns-4)

@@ -4,7 +4,7 @@ use crate::input::Input;
 use crate::line::{print_pick, print_refusal};
 use drive::calls::feed::feed;
 use drive::calls::start::start;
-use drive::cells::{Centre, Numbers, PICKS, VISITS};
+use drive::cells::{Centre, Numbers, ALPHABET, PICKS, VISITS};
 use drive::state::State;
 use std::io::Write;
 
@@ -40,6 +40,8 @@ pub fn run(input: &mut Input, output: &mut impl Write, k: usize) {
             longest: Centre(0),
         },
         letters: &mut [0; PICKS],
+        codes: &mut [0; PICKS],
+        lifts: &mut [0; ALPHABET],
         centres: &mut [[0; 2 * PICKS + 2]; 4],
         places: &mut [[0; PICKS + 1]; 3],
     };
