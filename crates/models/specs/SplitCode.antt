@@ -60,6 +60,26 @@ module _ (rows R : List ℕ) (n s k i : ℕ) where
   pub start-before : (x : ℕ) → some x ≡ firstStart rows R n s k i i 0 → x < i
   start-before x e = omega (arith, first-below i 0 x (sym e))
 
+-- Other row words, alike before place i: the search reads no others
+
+module _ (rows others R : List ℕ) (n s : ℕ) where
+  first-alike : (k i m j : ℕ) → ((x : ℕ) → x < j + m → at rows x ≡ at others x) → firstStart rows R n s k i m j ≡ firstStart others R n s k i m j
+  unfolding firstStart
+  first-alike k i zero j f = refl
+  first-alike k i (suc m) j f = rw (f j (omega arith), first-alike k i m (j + 1) (λ x l. f x (omega arith)))
+
+  pub split-alike : (k i : ℕ) → ((x : ℕ) → x < i → at rows x ≡ at others x) → splitBy rows R n s k i ≡ splitBy others R n s k i
+  unfolding splitBy joinRest
+  split-alike zero i f = refl
+  split-alike (suc k) i f =
+      ap (joinRest (splitBy rows R n s k) i) (first-alike k i i 0 (λ x l. f x (omega arith))) ∙ go (firstStart others R n s k i i 0) refl (split-alike k)
+    where
+      go : (o : Option ℕ) → firstStart others R n s k i i 0 ≡ o
+          → ((j : ℕ) → ((x : ℕ) → x < j → at rows x ≡ at others x) → splitBy rows R n s k j ≡ splitBy others R n s k j)
+          → joinRest (splitBy rows R n s k) i o ≡ joinRest (splitBy others R n s k) i o
+      go none e g = refl
+      go (some j) e g = ap (joinLast i) (g j (λ x l. f x (omega (arith, start-before others R n s k i j (sym e)))))
+
 -- The ends, whatever is stored: k of them, rising from above 0 to i
 
 abbrev pub EndsOf : (i k : ℕ) → List ℕ → Type 0

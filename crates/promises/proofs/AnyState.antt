@@ -1,24 +1,29 @@
--- The calls for a split and for the next shorter ending, on any state whatever: the values that each gives fit together.
-use mathlib.Core.Path.{_≡_, refl, _∙_}
+-- The calls that only read, on any state whatever: what each may read of it; and of a split and of the next shorter ending that the values
+-- fit together.
+use mathlib.Core.Path.{_≡_, refl, sym, ap, _∙_}
 use mathlib.Core.Bool.{Bool, true, false, cond}
 use mathlib.Core.Logic.{inl}
-use mathlib.Core.List.{List}
+use mathlib.Core.List.{List, [], _∷_}
 use mathlib.Core.Option.{Option, some, none}
-use Prim.Native.Nat.{ℕ, _+_}
+use Prim.Native.Nat.{ℕ, _+_, _≤_, _<_}
 use native.Mathlib.Omega.{arith}
 use native.Mathlib.Decide.{ℕ-discrete}
-use Rattle.words.specs.Definitions.{lengthAt}
+use lib.Seq.{getD-take}
+use Rattle.words.specs.Definitions.{lengthAt, word}
+use Rattle.models.specs.Stores.{at}
 use Rattle.models.specs.Iterator.{longestOf, isEnding, periodAt}
 use Rattle.models.specs.Iterating.{ending-high}
 use Rattle.models.specs.Answers.{shorterBy}
-use Rattle.models.specs.SplitCode.{split-ends}
+use Rattle.models.specs.SplitCode.{split-alike, split-ends}
 use Rattle.promises.specs.declared.Draft.{Draft}
 use Rattle.promises.specs.Answers.{Reply}
-use Rattle.promises.specs.Book.{Query, ask, split, next, lent}
-use Rattle.promises.specs.Replies.{orNoSplit, orNoEnding, splitReply, refusalOf}
+use Rattle.promises.specs.Book.{Query, ask, split, longest, mask, radius, next, fold, lift, lent}
+use Rattle.promises.specs.Replies.{unless, orNoSplit, orNoEnding, gives, splitReply, recordReply, refusalOf}
+use Rattle.promises.specs.State.{numbersOf}
 use Rattle.promises.specs.BookLaws.{unless-zero, unless-not}
-use Rattle.promises.specs.Promises.{splitHeld, foundIn, computedTo, Reads}
+use Rattle.promises.specs.Promises.{maskByte, splitHeld, foundIn, computedTo, Reads}
 use Rattle.promises.specs.Demands.{Accepted, NextRight, NextHolds, EndsRight, SplitHolds}
+use Rattle.promises.specs.Unread.{prefixesTo, rowsTo, partsFor, stateFrom, replyFrom, PartsHold, otherRows, SplitAlike}
 use Rattle.promises.proofs.Keeping.{said-is}
 
 -- an accepted call gives what is found
@@ -62,3 +67,38 @@ split-holds d i k before r p ok = go (splitHeld d k i) refl (found d (split i k 
     go (some ends) e q =
         let h = split-ends (d .rows) (d .radius) (d .n) (longestOf (d .n) (d .longest .0)) k i ends e in
         record { ends = ends; count = h .0; rising = h .1; is = q }
+
+-- What each may read
+
+-- other row words, alike below place i: the search reads no others
+split-rows : (d : Draft) (rows : List ℕ) (k i : ℕ) → ((j : ℕ) → j < i → at (d .rows) j ≡ at rows j) → splitHeld d k i ≡ splitHeld (otherRows d rows) k i
+split-rows d rows k i f = split-alike (d .rows) rows (d .radius) (d .n) (longestOf (d .n) (d .longest .0)) k i f
+
+row-to : (d : Draft) (i j : ℕ) → j ≤ i → at (d .rows) j ≡ at (rowsTo i d) j
+row-to d i j l = sym (getD-take (prefixesTo i) (d .rows) j 0 (omega arith))
+
+split-to : (d : Draft) (k i : ℕ) → splitHeld d k i ≡ splitHeld (otherRows d (rowsTo i d)) k i
+split-to d k i = split-rows d (rowsTo i d) k i (λ j l. row-to d i j (omega arith))
+
+found-from : (d : Draft) (q : Query) → foundIn d q ≡ foundIn (stateFrom (numbersOf d) (partsFor d q)) q
+unfolding foundIn
+found-from d (split i k list) = ap (λ o. splitReply o list) (split-to d k i)
+found-from d longest = refl
+found-from d (mask i) = ap (λ x. gives (maskByte x ∷ [])) (row-to d i i (omega arith))
+found-from d (radius c) = refl
+found-from d (next c) = refl
+found-from d (fold i k output) = ap (λ o. recordReply (word (d .letters)) i o output) (split-to d k i)
+found-from d (lift letter) = refl
+
+pub parts-hold : PartsHold
+unfolding replyFrom computedTo
+parts-hold d q r p = p .computes ∙ ap (unless (refusalOf (d .n) (d .k) (ask q)) (lent (ask q))) (found-from d q)
+
+pub split-same : SplitAlike
+unfolding computedTo foundIn
+split-same d e i k before r s h p q =
+    let number : ℕ = refusalOf (d .n) (d .k) (ask (split i k before)) in
+    p .computes
+    ∙ ap (λ o. unless number before (splitReply o before)) (split-rows d (e .rows) k i (λ j l. h .rows j (omega arith)))
+    ∙ ap (λ x. computedTo x (split i k before)) (sym (h .others))
+    ∙ sym (q .computes)

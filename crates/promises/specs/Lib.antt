@@ -13,6 +13,7 @@ pub mod Lent
 pub mod Drafts
 pub mod Runs
 pub mod Demands
+pub mod Unread
 pub mod ReadBack
 pub mod Alike
 -- laws

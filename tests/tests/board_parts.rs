@@ -1,0 +1,190 @@
+//! What a call that only reads may not read counts for nothing in it: row words of prefixes
+//! above its own (document 02, 2.6), and every array that it is not lent.
+
+#[path = "support/any_states.rs"]
+mod any_states;
+
+use any_states::{any_state, spoiled_state, with_any_numbers};
+use comparison::beside::{BYTE, ENTRY};
+use comparison::full_drafts::{palindromes, repeated_units, well_known_words};
+use comparison::library::{Board, NEXT, PLACES, RADIUS, ROWS};
+use comparison::samples::{every_draft_to, Generator};
+use comparison::scripted::{number_of, Call, Reply};
+use comparison::{MOST_PICKS, MOST_SECTIONS};
+use std::collections::HashMap;
+use std::mem::{discriminant, Discriminant};
+
+/// What a call gives: its reply, and the list and the output as they are afterwards.
+type Given = (Reply, Vec<u16>, Vec<u8>);
+
+/// Makes a call on a copy of the state.
+fn given(state: &Board, call: Call) -> Given {
+    let mut list = vec![ENTRY; call.entries()];
+    let mut output = vec![BYTE; call.output_bytes()];
+    let reply = state.clone().make(call, &mut list, &mut output);
+    (reply, list, output)
+}
+
+/// How many row words the call may read: those of prefixes 0 to its own.
+fn row_words(call: Call) -> usize {
+    match call {
+        Call::Split { prefix, .. } | Call::Record { prefix, .. } | Call::Mask { prefix } => {
+            PLACES.min(usize::from(prefix) + 1)
+        }
+        _ => 0,
+    }
+}
+
+/// The state with its own numbers and all that the call may read, and anything else in the
+/// other arrays and above its prefix.
+fn all_else_changed(state: &Board, call: Call, anything: &Board) -> Board {
+    let mut other = only_numbers(state, anything);
+    let rows = row_words(call);
+    other.place_lane_mut(ROWS)[..rows].copy_from_slice(&state.place_lane(ROWS)[..rows]);
+    let lanes: &[usize] = match call {
+        Call::Split { .. } | Call::Record { .. } | Call::Radius { .. } => &[RADIUS],
+        Call::NextEnding { .. } => &[RADIUS, NEXT],
+        _ => &[],
+    };
+    for &lane in lanes {
+        let read = state.centre_lane(lane);
+        other.centre_lane_mut(lane).copy_from_slice(read);
+    }
+    match call {
+        Call::Record { .. } => other.letters_mut().copy_from_slice(state.stored_picks()[0]),
+        Call::Lift { .. } => other.lifts_mut().copy_from_slice(&state.lifts()),
+        _ => {}
+    }
+    other
+}
+
+/// The state's numbers, and anything in its arrays.
+fn only_numbers(state: &Board, anything: &Board) -> Board {
+    let mut other = anything.clone();
+    other.store(state.n(), state.most_sections(), state.longest());
+    other
+}
+
+/// Arrays of any bytes, and of bytes that are all the same.
+fn anythings() -> [Board; 4] {
+    let generator = &mut Generator(26);
+    [
+        Board::filled(|| generator.below(1 << 16) as u16),
+        Board::filled(|| u16::MAX),
+        Board::filled(|| 0),
+        Board::filled(|| generator.below(1 << 9) as u16),
+    ]
+}
+
+/// An output that is long enough for every record.
+const MOST_RECORD: u16 = 1_200;
+
+/// Mask of a prefix; its splits and records for every k from 0 to 9, on lists of 8 entries
+/// and of one too few, on outputs that are often too short and that never are; a call of each
+/// other kind, for the next ending after the longest one too.
+fn calls_about(state: &Board, prefix: u16) -> Vec<Call> {
+    let longest = state.longest().clamp(1, 2 * state.n().min(MOST_PICKS) + 1);
+    let [centre, ending] = [2 * prefix, longest as u16];
+    let mut calls = vec![
+        Call::Mask { prefix },
+        Call::LongestCentre,
+        Call::Radius { centre },
+        Call::NextEnding { centre },
+        Call::NextEnding { centre: ending },
+        Call::Lift { letter: 90 },
+    ];
+    for k in 0..=MOST_SECTIONS as u8 + 1 {
+        for entries in [MOST_SECTIONS as u16, u16::from(k).saturating_sub(1)] {
+            calls.push(Call::Split { prefix, k, entries });
+        }
+        let bytes = [60, MOST_RECORD][usize::from(k % 2)];
+        calls.push(Call::Record { prefix, k, bytes });
+    }
+    calls
+}
+
+/// What was seen: accepted splits, those refused with 9, and of each kind of call how many
+/// were answered otherwise where what they read was changed.
+#[derive(Default, Debug)]
+struct Seen {
+    accepted: usize,
+    refused: usize,
+    read: HashMap<Discriminant<Call>, usize>,
+}
+
+impl Seen {
+    /// Makes the calls on the state, and on states that differ in what is not read.
+    fn compare(&mut self, state: &Board, prefix: u16, anythings: &[Board], case: &str) {
+        for call in calls_about(state, prefix) {
+            let first = given(state, call);
+            for anything in anythings {
+                let second = given(&all_else_changed(state, call, anything), call);
+                let n = state.n();
+                assert_eq!(first, second, "{call:?}, n {n}, {case}");
+                let without = given(&only_numbers(state, anything), call);
+                *self.read.entry(discriminant(&call)).or_default() += usize::from(first != without);
+            }
+            if matches!(call, Call::Split { .. }) {
+                self.accepted += usize::from(first.0.is_ok());
+                self.refused += usize::from(number_of(first.0) == Some(9));
+            }
+        }
+    }
+
+    /// Each was seen at least so often. The longest ending's centre is by the numbers alone.
+    fn at_least(&self, count: usize) {
+        assert!(self.accepted.min(self.refused) >= count, "{self:?}");
+        for call in calls_about(&Board::started(1), 0) {
+            let read = self.read[&discriminant(&call)];
+            let least = usize::from(call != Call::LongestCentre) * count;
+            assert!(read >= least, "{call:?} {read} times");
+        }
+    }
+}
+
+#[test]
+fn every_small_draft() {
+    let (anythings, mut seen) = (anythings(), Seen::default());
+    for draft in every_draft_to(2, 6).chain(every_draft_to(3, 4)) {
+        let state = Board::fed(&draft, MOST_SECTIONS);
+        let text = String::from_utf8_lossy(&draft);
+        for prefix in 0..=draft.len() as u16 + 1 {
+            seen.compare(&state, prefix, &anythings, &text);
+        }
+    }
+    seen.at_least(2_000);
+}
+
+#[test]
+fn full_drafts() {
+    let (anythings, mut seen) = (anythings(), Seen::default());
+    let generator = &mut Generator(2_048);
+    for (name, draft) in [repeated_units(), well_known_words(), palindromes(1)].concat() {
+        let state = Board::fed(&draft, MOST_SECTIONS);
+        for _ in 0..12 {
+            let prefix = generator.below(draft.len() + 1) as u16;
+            seen.compare(&state, prefix, &anythings, &name);
+        }
+    }
+    seen.at_least(300);
+}
+
+/// States that no run made, n and K within their limits or not.
+#[test]
+fn any_stored_bytes() {
+    let (anythings, mut seen) = (anythings(), Seen::default());
+    for seed in 0..600 {
+        let generator = &mut Generator(seed);
+        let any = any_state(generator);
+        let states = [
+            spoiled_state(generator),
+            with_any_numbers(any.clone(), generator),
+            any,
+        ];
+        for state in states {
+            let prefix = generator.below(state.n().min(2_049) + 1) as u16;
+            seen.compare(&state, prefix, &anythings, &format!("seed {seed}"));
+        }
+    }
+    seen.at_least(600);
+}
