@@ -1,8 +1,10 @@
 // Times ways to feed a draft of 2,048 picks with K = 8: the library's feed on lent arrays and its feeds by script, each
 // beside two in C, which store the same. A line for each draft: the nanoseconds for a pick, and the ratios of the
-// library to each in C. The last line has the largest ratios. Exit status 1, with what and where, where two differ.
+// library to each in C. The last line has the largest ratios. Then the time of going back to a mark beside that of the
+// feeds by script. Exit status 1, with what and where, where two differ.
 #include "clock.h"
 
+#include "backs.h"
 #include "ways.h"
 
 #include <stdio.h>
@@ -85,5 +87,6 @@ int main(void) {
     for (int i = 0; i < TIMED_DRAFTS; i++)
         time_draft(&drafts[i], largest);
     print_largest(largest);
+    time_backs(drafts);
     return 0;
 }

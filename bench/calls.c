@@ -6,7 +6,7 @@
 #include <stdio.h>
 #include <string.h>
 
-enum { PREFIX_STEP = 8, STATES = 500 };
+enum { PREFIX_STEP = 8, BACK_STEP = 64, STATES = 500 };
 
 // Measures a call on the state of a draft.
 static size_t on_draft(int call, size_t b, size_t x, size_t m) {
@@ -59,6 +59,22 @@ static void questions(void) {
     for (size_t letter = 0; letter <= UINT8_MAX; letter++)
         on_draft(BOARD_LIFT_CALL, letter, 0, 0);
     on_draft(BOARD_LOAD_CALL, 0, 0, BOARD_ALPHABET);
+}
+
+// Every letter as the name of a mark, and the bytes beside, so that a fifth name is refused; those that are marks are
+// moved. Then backs from the full draft: to a name that is no mark, to no letter, and to every 64th length, from all
+// picks down to none.
+static void marks(void) {
+    for (size_t name = 'A' - 1; name <= 'Z' + 1; name++)
+        on_draft(BOARD_MARK_CALL, name, 0, 0);
+    for (size_t name = 'A'; name <= 'D'; name++)
+        on_draft(BOARD_MARK_CALL, name, 0, 0);
+    on_draft(BOARD_BACK_CALL, 'Z', 0, 0);
+    on_draft(BOARD_BACK_CALL, 'a', 0, 0);
+    for (size_t dropped = 0; dropped <= BOARD_PICKS; dropped += BACK_STEP) {
+        board.marks[0] = (uint16_t)(BOARD_PICKS - dropped + 1);
+        on_draft(BOARD_BACK_CALL, 'A', 0, 0);
+    }
 }
 
 // Unfolds the record of prefix i in k sections, with too little lent and without its end too, and reads each section.
@@ -136,6 +152,8 @@ static void any_calls(uint64_t *seed) {
         {UNFOLD_CALL, 0, BOARD_RECORD, BOARD_PICKS},
         {SECTION_CALL, 0, BOARD_RECORD, 0},
         {BOARD_FEED_CALL, letter, 0, BOARD_VISITS},
+        {BOARD_MARK_CALL, letter, 0, 0},
+        {BOARD_BACK_CALL, letter, 0, 0},
         {BOARD_START_CALL, k, 0, 0},
         {BOARD_LOAD_CALL, 0, 0, BOARD_ALPHABET},
     };
@@ -154,6 +172,7 @@ static void measure_all(void) {
         feeds(&drafts[i]);
         questions();
         splits();
+        marks();
     }
     no_state();
     for (size_t number = 0; number < STATES; number++) {
@@ -177,6 +196,8 @@ int main(void) {
     print_row(BOARD_START_CALL, "start");
     print_row(BOARD_LOAD_CALL, "load");
     print_row(BOARD_FEED_CALL, "feed");
+    print_row(BOARD_MARK_CALL, "mark");
+    print_row(BOARD_BACK_CALL, "back");
     print_row(BOARD_MASK_CALL, "mask");
     print_row(BOARD_RADIUS_CALL, "radius");
     print_row(BOARD_LONGEST_CALL, "longest ending");

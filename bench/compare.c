@@ -20,6 +20,7 @@ static int state_differs(const char *case_name, const struct state *given, const
     return part_differs(case_name, "letters", a->letters, b->letters, sizeof b->letters) ||
            part_differs(case_name, "codes", a->codes, b->codes, sizeof b->codes) ||
            part_differs(case_name, "lifts", a->lifts, b->lifts, sizeof b->lifts) ||
+           part_differs(case_name, "marks", a->marks, b->marks, sizeof b->marks) ||
            part_differs(case_name, "lanes by centre", a->centres, b->centres, sizeof b->centres) ||
            part_differs(case_name, "lanes by place", a->places, b->places, sizeof b->places) ||
            part_differs(case_name, "numbers", a->numbers, b->numbers, sizeof b->numbers) ||
@@ -44,6 +45,22 @@ static void feed_once(int form, int make, const struct draft *draft, struct stat
         s->masks[n] = s->answers[n][1];
 }
 
+// 1 and a message where the library's state, once it has gone back to the draft's end, is not that of plain C with the
+// mark.
+static int back_differs(const struct draft *draft, struct state *given, const struct state *plain) {
+    static struct state marked;
+    char case_name[80];
+    snprintf(case_name, sizeof case_name, "%s, back", draft->name);
+    marked = *plain;
+    marked.board.marks[END_NAME - 'A'] = BOARD_PICKS + 1;
+    feed_once(LISTS, LIBRARY, draft, given);
+    if (mark_end(given) || back_to_end(given)) {
+        printf("%s: it is refused\n", case_name);
+        return 1;
+    }
+    return state_differs(case_name, given, &marked);
+}
+
 int draft_differs(const struct draft *draft) {
     static struct state given, plain;
     feed_once(LISTS, PLAIN, draft, &plain);
@@ -55,5 +72,5 @@ int draft_differs(const struct draft *draft) {
         if (state_differs(case_name, &given, &plain) || picks_differ(form, case_name, &given, &plain))
             return 1;
     }
-    return 0;
+    return back_differs(draft, &given, &plain);
 }

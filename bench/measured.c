@@ -25,6 +25,8 @@ static size_t given;
 static void make_start(void) { given = board_start(&board, current.b).number; }
 static void make_load(void) { given = board_load(&board, table, current.m).number; }
 static void make_feed(void) { given = board_feed(&board, current.b, list, current.m).number; }
+static void make_mark(void) { given = board_mark(&board, current.b).number; }
+static void make_back(void) { given = board_back(&board, current.b).number; }
 static void make_mask(void) { given = board_mask(&board, board_prefix(current.x)).number; }
 static void make_radius(void) { given = board_radius(&board, board_centre_at(current.x)).number; }
 static void make_longest(void) { given = board_longest(&board).number; }
@@ -47,7 +49,7 @@ static size_t answers[BOARD_ANSWER_SIZE];
 
 static void drive_alone(void) {
     given =
-        drive(board.letters, board.codes, board.lifts, board.centres, board.places, board.numbers, script,
+        drive(board.letters, board.codes, board.lifts, board.marks, board.centres, board.places, board.numbers, script,
               sizeof script, table, sizeof table, list, BOARD_PICKS, output, sizeof output, answers, BOARD_ANSWER_SIZE);
 }
 static void show_alone(void) {
@@ -66,6 +68,7 @@ static const struct {
     [BOARD_MASK_CALL] = {make_mask, drive_alone},   [BOARD_RADIUS_CALL] = {make_radius, drive_alone},
     [BOARD_NEXT_CALL] = {make_next, drive_alone},   [BOARD_RECORD_CALL] = {make_record, drive_alone},
     [BOARD_LIFT_CALL] = {make_lift, drive_alone},   [BOARD_LOAD_CALL] = {make_load, drive_alone},
+    [BOARD_MARK_CALL] = {make_mark, drive_alone},   [BOARD_BACK_CALL] = {make_back, drive_alone},
     [SHOW_CALL] = {make_show, show_alone},          [UNFOLD_CALL] = {make_unfold, unfold_alone},
     [SECTION_CALL] = {make_section, section_alone},
 };

@@ -35,9 +35,9 @@ static void feed_lent(struct state *s, const struct draft *draft) {
 // The library's feeds by script. No input and no output are lent.
 static void feed_script(struct state *s, const struct draft *draft) {
     struct board *board = &s->board;
-    drive(board->letters, board->codes, board->lifts, board->centres, board->places, board->numbers, draft->calls[0],
-          sizeof draft->calls, draft->picks, 0, s->lists[0], BOARD_PICKS * BOARD_VISITS, s->masks, 0, s->answers[0],
-          BOARD_PICKS * BOARD_ANSWER_SIZE);
+    drive(board->letters, board->codes, board->lifts, board->marks, board->centres, board->places, board->numbers,
+          draft->calls[0], sizeof draft->calls, draft->picks, 0, s->lists[0], BOARD_PICKS * BOARD_VISITS, s->masks, 0,
+          s->answers[0], BOARD_PICKS * BOARD_ANSWER_SIZE);
 }
 
 // One pick by an append in C.
@@ -74,6 +74,9 @@ static void undivided_one_list(struct state *s, const struct draft *draft) {
     append_one_list(undivided_append, s, draft);
 }
 static void undivided_lists(struct state *s, const struct draft *draft) { append_lists(undivided_append, s, draft); }
+
+size_t mark_end(struct state *s) { return board_mark(&s->board, END_NAME).number; }
+size_t back_to_end(struct state *s) { return board_back(&s->board, END_NAME).number; }
 
 const struct way ways[FORMS][MAKES] = {
     [ONE_LIST] = {{"lent", feed_lent}, {"C", plain_one_list}, {"C'", undivided_one_list}},

@@ -30,8 +30,16 @@ extern const struct way ways[FORMS][MAKES];
 // Makes the state that of an empty draft.
 void clear(struct state *);
 
+// The name of the mark at a draft's end.
+enum { END_NAME = 'A' };
+
+// Marks the end of the draft that is stored; goes back to that mark, which keeps all picks. Each gives 0 or the
+// refusal's number.
+size_t mark_end(struct state *);
+size_t back_to_end(struct state *);
+
 // 1, and a message that says what and where, where two ways differ in the state that they leave, or in a mask or a
-// visit; else 0.
+// visit, and where going back to the draft's end leaves another state; else 0.
 int draft_differs(const struct draft *);
 
 #endif

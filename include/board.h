@@ -18,7 +18,8 @@ extern "C" {
 
 enum {
     BOARD_PICKS = 2048,    // the most picks of a draft
-    BOARD_ALPHABET = 26,   // the letters A to Z: entries of a table of lifts
+    BOARD_ALPHABET = 26,   // the letters A to Z: entries of a table of lifts, and names of marks
+    BOARD_MARKS = 4,       // the most names that are marks at a time
     BOARD_SECTIONS = 8,    // the most sections that are asked for
     BOARD_VISITS = 19,     // the fewest entries of a visit list
     BOARD_RECORD = 1088,   // bytes that hold any folded record
@@ -50,14 +51,17 @@ enum {
     BOARD_RECORD_CALL,
     BOARD_LIFT_CALL,
     BOARD_LOAD_CALL,
+    BOARD_MARK_CALL,
+    BOARD_BACK_CALL,
     BOARD_CALLS
 };
 
 // The stored state. One of zeros is no draft yet: each call but a start is refused with 7.
 struct board {
     uint8_t letters[BOARD_PICKS];
-    uint8_t codes[BOARD_PICKS];    // of each pick the lift, by the table in force when it was fed: what is compared
-    uint8_t lifts[BOARD_ALPHABET]; // the table in force, A to Z
+    uint8_t codes[BOARD_PICKS];     // of each pick the lift, by the table in force when it was fed: what is compared
+    uint8_t lifts[BOARD_ALPHABET];  // the table in force, A to Z
+    uint16_t marks[BOARD_ALPHABET]; // of each name, A to Z: one more than the length it marks, 0 where it is no mark
     uint16_t centres[BOARD_CENTRE_LANES][BOARD_CENTRES];
     uint16_t places[BOARD_PLACE_LANES][BOARD_PLACES];
     size_t numbers[BOARD_NUMBERS];
@@ -67,19 +71,20 @@ BOARD_ASSERT(sizeof(size_t) == 8);
 BOARD_ASSERT(offsetof(struct board, letters) == 0);
 BOARD_ASSERT(offsetof(struct board, codes) == 2048);
 BOARD_ASSERT(offsetof(struct board, lifts) == 4096);
-BOARD_ASSERT(offsetof(struct board, centres) == 4122);
-BOARD_ASSERT(offsetof(struct board, places) == 36906);
-BOARD_ASSERT(offsetof(struct board, numbers) == 49200);
-BOARD_ASSERT(sizeof(struct board) == 49224);
+BOARD_ASSERT(offsetof(struct board, marks) == 4122);
+BOARD_ASSERT(offsetof(struct board, centres) == 4174);
+BOARD_ASSERT(offsetof(struct board, places) == 36958);
+BOARD_ASSERT(offsetof(struct board, numbers) == 49256);
+BOARD_ASSERT(sizeof(struct board) == 49280);
 
 // The library's functions. A slice is its pointer, which is not null, and its length; none may overlap another.
 
 // Makes the calls of the script, one after the other, and gives their number.
 size_t drive(uint8_t letters[BOARD_PICKS], uint8_t codes[BOARD_PICKS], uint8_t lifts[BOARD_ALPHABET],
-             uint16_t centres[BOARD_CENTRE_LANES][BOARD_CENTRES], uint16_t places[BOARD_PLACE_LANES][BOARD_PLACES],
-             size_t numbers[BOARD_NUMBERS], const uint8_t *script, size_t script_len, const uint8_t *input,
-             size_t input_len, uint16_t *lists, size_t lists_len, uint8_t *bytes, size_t bytes_len, size_t *answers,
-             size_t answers_len);
+             uint16_t marks[BOARD_ALPHABET], uint16_t centres[BOARD_CENTRE_LANES][BOARD_CENTRES],
+             uint16_t places[BOARD_PLACE_LANES][BOARD_PLACES], size_t numbers[BOARD_NUMBERS], const uint8_t *script,
+             size_t script_len, const uint8_t *input, size_t input_len, uint16_t *lists, size_t lists_len,
+             uint8_t *bytes, size_t bytes_len, size_t *answers, size_t answers_len);
 
 // Section s of the letters, as far as it fits the part. The answer: the refusal or 0, and the section's length.
 size_t drive_show(const uint8_t *letters, size_t letters_len, const uint16_t *ends, size_t ends_len, size_t s,
@@ -121,6 +126,12 @@ struct board_start_answer {
 struct board_load_answer {
     size_t number;
     size_t place; // of the lift that is refused, counted from 0; 0 where the number names none
+};
+struct board_mark_answer {
+    size_t number;
+};
+struct board_back_answer {
+    size_t number;
 };
 struct board_feed_answer {
     size_t number;
@@ -233,8 +244,8 @@ static inline struct board_reply board_make(struct board *board, size_t call_num
     size_t entries = lent.list ? lent.entries : 0, bytes = lent.output ? lent.bytes : 0;
     size_t input_bytes = lent.input ? lent.input_bytes : 0;
     board_write_call(call, call_number, b, x, entries ? entries : bytes ? bytes : input_bytes);
-    drive(board->letters, board->codes, board->lifts, board->centres, board->places, board->numbers, call, sizeof call,
-          lent.input ? lent.input : &no_input, input_bytes, lent.list ? lent.list : &no_entry, entries,
+    drive(board->letters, board->codes, board->lifts, board->marks, board->centres, board->places, board->numbers, call,
+          sizeof call, lent.input ? lent.input : &no_input, input_bytes, lent.list ? lent.list : &no_entry, entries,
           lent.output ? lent.output : &no_byte, bytes, answer, BOARD_ANSWER_SIZE);
     if (answer[0]) {
         reply.number = answer[1];
@@ -269,7 +280,7 @@ static inline struct board_lent board_input(const uint8_t *input, size_t bytes) 
 
 // The calls that write the state
 
-// Start: an empty draft with K and the fixed table of lifts, whatever was stored.
+// Start: an empty draft with K, the fixed table of lifts and no mark, whatever was stored.
 static inline struct board_start_answer board_start(struct board *board, size_t k) {
     struct board_reply reply = board_make(board, BOARD_START_CALL, k, 0, board_nothing());
     struct board_start_answer answer = {reply.number};
@@ -288,6 +299,22 @@ static inline struct board_load_answer board_load(struct board *board, const uin
 static inline struct board_feed_answer board_feed(struct board *board, size_t pick, uint16_t *visits, size_t entries) {
     struct board_reply reply = board_make(board, BOARD_FEED_CALL, pick, 0, board_list(visits, entries));
     struct board_feed_answer answer = {reply.number, (uint8_t)reply.first, reply.second};
+    return answer;
+}
+
+// Mark: the name, a letter A to Z, marks the draft's length. Up to four names are marks at a time; one that is a mark
+// is moved.
+static inline struct board_mark_answer board_mark(struct board *board, size_t name) {
+    struct board_reply reply = board_make(board, BOARD_MARK_CALL, name, 0, board_nothing());
+    struct board_mark_answer answer = {reply.number};
+    return answer;
+}
+
+// Back: the draft is as if only the picks up to the mark had been fed. Marks of greater length are dropped; the others
+// stay, and so do the lifts.
+static inline struct board_back_answer board_back(struct board *board, size_t name) {
+    struct board_reply reply = board_make(board, BOARD_BACK_CALL, name, 0, board_nothing());
+    struct board_back_answer answer = {reply.number};
     return answer;
 }
 

@@ -5,8 +5,9 @@ use crate::words::{exact, number, Wrong};
 use board::{State, GATHERED, HEADS, LENDS, NEXT, PREV, RADIUS, ROWS};
 
 /// The names of the stored arrays.
-const ARRAYS: [&str; 10] = [
-    "letters", "codes", "lifts", "radius", "heads", "lends", "next", "prev", "rows", "gathered",
+const ARRAYS: [&str; 11] = [
+    "letters", "codes", "lifts", "marks", "radius", "heads", "lends", "next", "prev", "rows",
+    "gathered",
 ];
 
 /// A stored array.
@@ -30,6 +31,7 @@ fn array<'a>(state: &'a mut State, name: &[u8]) -> Result<Array<'a>, Wrong> {
         b"letters" => Array::Bytes(&mut state.letters),
         b"codes" => Array::Bytes(&mut state.codes),
         b"lifts" => Array::Bytes(&mut state.lifts),
+        b"marks" => Array::Numbers(&mut state.marks),
         b"radius" => Array::Numbers(&mut state.centres[RADIUS]),
         b"heads" => Array::Numbers(&mut state.places[HEADS]),
         b"lends" => Array::Numbers(&mut state.centres[LENDS]),

@@ -7,11 +7,13 @@ use crate::words::{bytes_of, exact, number, pick, words, Wrong};
 use board::{unfold, Board, Centre, Place, Refusal, VISITS};
 
 /// How each call is written.
-const CALLS: [&str; 19] = [
+const CALLS: [&str; 21] = [
     "start K",
     "load BYTE..",
     "feed PICK [ENTRIES]",
     "picks LETTERS",
+    "mark NAME",
+    "back NAME",
     "mask I",
     "radius C",
     "longest",
@@ -94,6 +96,8 @@ impl Session {
             [b"load", ref bytes @ ..] => self.load(&table(bytes)?),
             [b"feed", word] => self.feed(pick(word)?, VISITS),
             [b"feed", word, entries] => self.feed(pick(word)?, number(entries)?),
+            [b"mark", name] => self.mark(pick(name)?),
+            [b"back", name] => self.back(pick(name)?),
             [b"mask", i] => self.mask(number(i)?),
             [b"radius", centre] => self.radius(number(centre)?),
             [b"longest"] => self.longest(),
@@ -141,6 +145,16 @@ impl Session {
         let letters = bytes_of(word)?;
         let feeds = letters.into_iter().map(|pick| self.feed(pick, VISITS));
         Ok(feeds.collect())
+    }
+
+    fn mark(&mut self, name: u8) -> String {
+        let reply = self.board.mark(name).map(|()| vec![]);
+        answer(reply, &Lent::Nothing, self.all)
+    }
+
+    fn back(&mut self, name: u8) -> String {
+        let reply = self.board.back(name).map(|()| vec![]);
+        answer(reply, &Lent::Nothing, self.all)
     }
 
     fn mask(&mut self, i: usize) -> String {

@@ -45,8 +45,8 @@ fn is_the_number(word: &[u8], number: usize) -> bool {
     word[zeros..] == *number.to_string().as_bytes()
 }
 
-/// A pick or a letter: a decimal number, or one character by its code. One that a byte cannot
-/// hold is 255.
+/// A pick, a letter or a name: a decimal number, or one character by its code. One that a byte
+/// cannot hold is 255.
 pub fn pick(word: &[u8]) -> Result<u8, Wrong> {
     if is_number(word) {
         return Ok(u8::try_from(number(word)?).unwrap_or(u8::MAX));

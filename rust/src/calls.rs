@@ -3,15 +3,15 @@
 use crate::functions::drive;
 use crate::refusal::Refusal;
 use crate::script::{
-    call, values, ANSWER_NUMBERS, CALL_BYTES, FEED, LIFT, LOAD, LONGEST_ENDING, MASK, NEXT_SHORTER,
-    RADIUS_AT, RECORD, SPLIT, START,
+    call, values, ANSWER_NUMBERS, BACK, CALL_BYTES, FEED, LIFT, LOAD, LONGEST_ENDING, MARK, MASK,
+    NEXT_SHORTER, RADIUS_AT, RECORD, SPLIT, START,
 };
 use crate::state::{Centre, Place, State};
 
 /// A board: the stored state, and the calls on it.
 ///
-/// Every call takes `&mut self`: start, load and feed change the state, and the library writes the
-/// three numbers back also where it changes nothing.
+/// Every call takes `&mut self`: start, load, feed, mark and back change the state, and the library
+/// writes the three numbers back also where it changes nothing.
 #[derive(Clone, Debug, PartialEq, Eq)]
 pub struct Board {
     /// What is stored. Any numbers may be written here.
@@ -58,8 +58,8 @@ impl Board {
         }
     }
 
-    /// Start: an empty draft with K and the fixed table of lifts, whatever was stored. Refused
-    /// with 1.
+    /// Start: an empty draft with K, the fixed table of lifts and no mark, whatever was stored.
+    /// Refused with 1.
     ///
     /// ```
     /// let mut board = board::Board::new();
@@ -129,6 +129,55 @@ impl Board {
             mask: mask as u8,
             visits,
         })
+    }
+
+    /// Mark: the name, a letter A to Z, marks the draft's length, so that [`Board::back`] can go back
+    /// to it. Up to four names are marks at a time; one that is a mark is moved. Refused with 7, 2 or
+    /// 18.
+    ///
+    /// ```
+    /// # use board::{Board, VISITS};
+    /// # let mut board = Board::new();
+    /// # board.start(8)?;
+    /// for &name in b"ABCD" {
+    ///     board.mark(name)?;
+    /// }
+    /// assert_eq!(board.mark(b'E').unwrap_err().number(), 18);
+    /// board.feed(b'A', &mut [0; VISITS])?;
+    /// // B moves to one pick.
+    /// board.mark(b'B')?;
+    /// assert_eq!(board.state.marks[..5], [1, 2, 1, 1, 0]);
+    /// assert_eq!(board.mark(b'b').unwrap_err().number(), 2);
+    /// # Ok::<(), board::Refusal>(())
+    /// ```
+    pub fn mark(&mut self, name: u8) -> Result<(), Refusal> {
+        self.ask(MARK, name.into(), 0)?;
+        Ok(())
+    }
+
+    /// Back: the draft is as if only the picks up to the mark had been fed. Marks of greater length
+    /// are dropped; the others stay, and so do the lifts. Refused with 7, 2 or 17.
+    ///
+    /// ```
+    /// # use board::{Board, Place, VISITS};
+    /// # let mut board = Board::new();
+    /// # board.start(8)?;
+    /// let mut visits = [0; VISITS];
+    /// board.feed(b'A', &mut visits)?;
+    /// board.mark(b'M')?;
+    /// let with_one_pick = board.clone();
+    /// board.feed(b'B', &mut visits)?;
+    /// board.mark(b'N')?;
+    /// board.back(b'M')?;
+    /// assert!(board == with_one_pick);
+    /// // Another ending is tried.
+    /// assert_eq!(board.feed(b'A', &mut visits)?.mask, 0b11);
+    /// assert_eq!(board.back(b'N').unwrap_err().number(), 17);
+    /// # Ok::<(), board::Refusal>(())
+    /// ```
+    pub fn back(&mut self, name: u8) -> Result<(), Refusal> {
+        self.ask(BACK, name.into(), 0)?;
+        Ok(())
     }
 
     /// The mask of a prefix: bit k - 1 is set where it is k sections. Refused with 7 or 4.
@@ -301,6 +350,7 @@ impl Board {
                 state.letters.as_mut_ptr(),
                 state.codes.as_mut_ptr(),
                 state.lifts.as_mut_ptr(),
+                state.marks.as_mut_ptr(),
                 state.centres.as_mut_ptr().cast(),
                 state.places.as_mut_ptr().cast(),
                 state.numbers.as_mut_ptr(),

@@ -3,13 +3,14 @@
 
 extern "C" {
     /// Makes the calls of a script one after the other on the state, which is the
-    /// letters, the codes of the picks, the table of lifts, the lanes by centre, the
-    /// lanes by place and the three numbers n, K and the centre of the longest ending.
-    /// Gives the number of calls made.
+    /// letters, the codes of the picks, the table of lifts, the marks, the lanes by
+    /// centre, the lanes by place and the three numbers n, K and the centre of the longest
+    /// ending. Gives the number of calls made.
     pub fn drive(
         letters: *mut u8,
         codes: *mut u8,
         lifts: *mut u8,
+        marks: *mut u16,
         centres: *mut u16,
         places: *mut u16,
         numbers: *mut usize,

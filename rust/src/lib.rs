@@ -1,6 +1,7 @@
 //! The board of a dobby head: it takes a draft pick by pick and says after each whether the
 //! draft so far is k mirrored sections in a row, shows such a split, writes the folded record
-//! and reads it back. Each call is made by the proved static library.
+//! and reads it back, and goes back to marks in the draft. Each call is made by the proved static
+//! library.
 //!
 //! ```
 //! use board::{show, Board, Place, VISITS};
@@ -36,7 +37,7 @@ pub use reader::{section, unfold, Reader, Section, Turn};
 pub use refusal::{Refusal, Sentence, SENTENCES};
 pub use script::{ANSWER_NUMBERS, CALL_BYTES};
 pub use state::{
-    Centre, Place, State, ALPHABET, CENTRES, CENTRE_LANES, GATHERED, HEADS, K, LENDS, LONGEST, N,
-    NEXT, NUMBERS, PICKS, PLACES, PLACE_LANES, PREV, RADIUS, ROWS, SECTIONS, VISITS,
+    Centre, Place, State, ALPHABET, CENTRES, CENTRE_LANES, GATHERED, HEADS, K, LENDS, LONGEST,
+    MARKS, N, NEXT, NUMBERS, PICKS, PLACES, PLACE_LANES, PREV, RADIUS, ROWS, SECTIONS, VISITS,
 };
 pub use stateless::show;

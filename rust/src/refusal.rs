@@ -38,7 +38,7 @@ pub struct Sentence {
 }
 
 /// The sentences of the numbers, from 1 on.
-pub const SENTENCES: [Sentence; 16] = [
+pub const SENTENCES: [Sentence; 18] = [
     Sentence {
         means: "K is not 1 to 8, or k is not 1 to K",
         remedy: "start with a K of 1 to 8; ask for at most K sections",
@@ -102,6 +102,14 @@ pub const SENTENCES: [Sentence; 16] = [
     Sentence {
         means: "the draft is not empty",
         remedy: "start, load the table, then feed the picks",
+    },
+    Sentence {
+        means: "no such mark",
+        remedy: "set it first with mark, or use a name that is set",
+    },
+    Sentence {
+        means: "a fifth name: up to four can be marks at a time",
+        remedy: "set one of the four again, which moves it, or go back to a mark, which drops the longer ones",
     },
 ];
 

@@ -20,6 +20,8 @@ pub(crate) const NEXT_SHORTER: u8 = 6;
 pub(crate) const RECORD: u8 = 7;
 pub(crate) const LIFT: u8 = 8;
 pub(crate) const LOAD: u8 = 9;
+pub(crate) const MARK: u8 = 10;
+pub(crate) const BACK: u8 = 11;
 
 /// The number in a field of one byte: 255 for a larger one.
 fn byte(number: usize) -> u8 {

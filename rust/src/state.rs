@@ -1,9 +1,9 @@
-//! The stored state: letters, codes, lifts, lanes by centre and by place, and three numbers.
+//! The stored state: letters, codes, lifts, marks, lanes by centre and by place, and three numbers.
 
 /// The most picks of a draft.
 pub const PICKS: usize = 2_048;
 
-/// The letters A to Z: entries of a table of lifts.
+/// The letters A to Z: entries of a table of lifts, and of the marks.
 pub const ALPHABET: usize = 26;
 
 /// The most sections that are asked for.
@@ -11,6 +11,9 @@ pub const SECTIONS: usize = 8;
 
 /// The fewest entries of a visit list.
 pub const VISITS: usize = 19;
+
+/// The most names that are marks at a time.
+pub const MARKS: usize = 4;
 
 /// Entries of a lane by centre: 1 to 2 × 2,048 + 1, and entry 0, which is not used.
 pub const CENTRES: usize = 2 * PICKS + 2;
@@ -66,6 +69,8 @@ pub struct State {
     pub codes: [u8; PICKS],
     /// The table of lifts in force, A to Z.
     pub lifts: [u8; ALPHABET],
+    /// The marks, A to Z: 0 where the letter is none, else one more than the length that it marks.
+    pub marks: [u16; ALPHABET],
     /// The lanes by centre.
     pub centres: [[u16; CENTRES]; CENTRE_LANES],
     /// The lanes by place.
@@ -80,6 +85,7 @@ impl State {
         letters: [0; PICKS],
         codes: [0; PICKS],
         lifts: [0; ALPHABET],
+        marks: [0; ALPHABET],
         centres: [[0; CENTRES]; CENTRE_LANES],
         places: [[0; PLACES]; PLACE_LANES],
         numbers: [0; NUMBERS],

@@ -5,11 +5,11 @@
 #include <stdio.h>
 
 size_t drive(uint8_t letters[BOARD_PICKS], uint8_t codes[BOARD_PICKS], uint8_t lifts[BOARD_ALPHABET],
-             uint16_t centres[BOARD_CENTRE_LANES][BOARD_CENTRES], uint16_t places[BOARD_PLACE_LANES][BOARD_PLACES],
-             size_t numbers[BOARD_NUMBERS], const uint8_t *script, size_t script_len, const uint8_t *input,
-             size_t input_len, uint16_t *lists, size_t lists_len, uint8_t *bytes, size_t bytes_len, size_t *answers,
-             size_t answers_len) {
-    (void)letters, (void)codes, (void)lifts;
+             uint16_t marks[BOARD_ALPHABET], uint16_t centres[BOARD_CENTRE_LANES][BOARD_CENTRES],
+             uint16_t places[BOARD_PLACE_LANES][BOARD_PLACES], size_t numbers[BOARD_NUMBERS], const uint8_t *script,
+             size_t script_len, const uint8_t *input, size_t input_len, uint16_t *lists, size_t lists_len,
+             uint8_t *bytes, size_t bytes_len, size_t *answers, size_t answers_len) {
+    (void)letters, (void)codes, (void)lifts, (void)marks;
     (void)centres, (void)places, (void)numbers, (void)script, (void)script_len, (void)input;
     (void)input_len, (void)lists, (void)lists_len, (void)bytes, (void)bytes_len, (void)answers, (void)answers_len;
     return 0;
@@ -46,6 +46,8 @@ int main(void) {
     printf("start %zu\n", board_start(&board, 8).number);
     printf("load %zu %zu\n", loaded.number, loaded.place);
     printf("feed %zu %d %zu\n", fed.number, fed.mask, fed.visits);
+    printf("mark %zu\n", board_mark(&board, 'A').number);
+    printf("back %zu\n", board_back(&board, 'A').number);
     printf("mask %zu %d\n", mask.number, mask.mask);
     printf("radius %zu %zu\n", radius.number, radius.radius);
     printf("longest %zu %zu\n", longest.number, longest.centre.half_picks);

@@ -5,10 +5,10 @@
 #include <sanitizer/asan_interface.h>
 #include <stdlib.h>
 
-size_t __real_drive(uint8_t *letters, uint8_t *codes, uint8_t *lifts, uint16_t (*centres)[BOARD_CENTRES],
-                    uint16_t (*places)[BOARD_PLACES], size_t *numbers, const uint8_t *script, size_t script_len,
-                    const uint8_t *input, size_t input_len, uint16_t *lists, size_t lists_len, uint8_t *bytes,
-                    size_t bytes_len, size_t *answers, size_t answers_len);
+size_t __real_drive(uint8_t *letters, uint8_t *codes, uint8_t *lifts, uint16_t *marks,
+                    uint16_t (*centres)[BOARD_CENTRES], uint16_t (*places)[BOARD_PLACES], size_t *numbers,
+                    const uint8_t *script, size_t script_len, const uint8_t *input, size_t input_len, uint16_t *lists,
+                    size_t lists_len, uint8_t *bytes, size_t bytes_len, size_t *answers, size_t answers_len);
 size_t __real_drive_show(const uint8_t *letters, size_t letters_len, const uint16_t *ends, size_t ends_len, size_t s,
                          uint8_t *part, size_t part_len, size_t *answer);
 size_t __real_drive_unfold(const uint8_t *record, size_t record_len, uint8_t *picks, size_t picks_len, size_t *answer);
@@ -20,13 +20,14 @@ static void check(const void *memory, size_t bytes) {
         abort();
 }
 
-size_t __wrap_drive(uint8_t *letters, uint8_t *codes, uint8_t *lifts, uint16_t (*centres)[BOARD_CENTRES],
-                    uint16_t (*places)[BOARD_PLACES], size_t *numbers, const uint8_t *script, size_t script_len,
-                    const uint8_t *input, size_t input_len, uint16_t *lists, size_t lists_len, uint8_t *bytes,
-                    size_t bytes_len, size_t *answers, size_t answers_len) {
+size_t __wrap_drive(uint8_t *letters, uint8_t *codes, uint8_t *lifts, uint16_t *marks,
+                    uint16_t (*centres)[BOARD_CENTRES], uint16_t (*places)[BOARD_PLACES], size_t *numbers,
+                    const uint8_t *script, size_t script_len, const uint8_t *input, size_t input_len, uint16_t *lists,
+                    size_t lists_len, uint8_t *bytes, size_t bytes_len, size_t *answers, size_t answers_len) {
     check(letters, BOARD_PICKS);
     check(codes, BOARD_PICKS);
     check(lifts, BOARD_ALPHABET);
+    check(marks, BOARD_ALPHABET * sizeof *marks);
     check(centres, BOARD_CENTRE_LANES * sizeof *centres);
     check(places, BOARD_PLACE_LANES * sizeof *places);
     check(numbers, BOARD_NUMBERS * sizeof *numbers);
@@ -35,8 +36,8 @@ size_t __wrap_drive(uint8_t *letters, uint8_t *codes, uint8_t *lifts, uint16_t (
     check(lists, lists_len * sizeof *lists);
     check(bytes, bytes_len);
     check(answers, answers_len * sizeof *answers);
-    return __real_drive(letters, codes, lifts, centres, places, numbers, script, script_len, input, input_len, lists,
-                        lists_len, bytes, bytes_len, answers, answers_len);
+    return __real_drive(letters, codes, lifts, marks, centres, places, numbers, script, script_len, input, input_len,
+                        lists, lists_len, bytes, bytes_len, answers, answers_len);
 }
 
 size_t __wrap_drive_show(const uint8_t *letters, size_t letters_len, const uint16_t *ends, size_t ends_len, size_t s,

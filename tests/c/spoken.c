@@ -152,6 +152,10 @@ static void feed(void) {
     free(visits);
 }
 
+static void mark(void) { print_number(board_mark(&board, number()).number, 0); }
+
+static void back(void) { print_number(board_back(&board, number()).number, 0); }
+
 static void mask(void) {
     struct board_mask_answer answer = board_mask(&board, board_prefix(number()));
     print_value(answer.number, answer.mask);
@@ -252,21 +256,23 @@ static void section(void) {
     free(record.bytes);
 }
 
-// An entry of one of the stored arrays of bytes.
+// An entry of the marks, or of one of the stored arrays of bytes.
 static void peek(void) {
     const char *name = word();
     const uint8_t *bytes = !strcmp(name, "letters") ? board.letters
                            : !strcmp(name, "codes") ? board.codes
                                                     : board.lifts;
-    printf("ok %u", (unsigned)bytes[number()]);
+    size_t index = number();
+    printf("ok %u", !strcmp(name, "marks") ? (unsigned)board.marks[index] : (unsigned)bytes[index]);
 }
 
 static const struct {
     const char *word;
     void (*answer)(void);
-} calls[] = {{"start", start},     {"load", load},     {"feed", feed},       {"mask", mask},     {"radius", radius},
-             {"longest", longest}, {"next", next},     {"split", split},     {"record", record}, {"lift", lift},
-             {"show", show},       {"unfold", unfold}, {"section", section}, {"peek", peek}};
+} calls[] = {{"start", start}, {"load", load},     {"feed", feed},       {"mark", mark},
+             {"back", back},   {"mask", mask},     {"radius", radius},   {"longest", longest},
+             {"next", next},   {"split", split},   {"record", record},   {"lift", lift},
+             {"show", show},   {"unfold", unfold}, {"section", section}, {"peek", peek}};
 
 int main(void) {
     static char line[MOST_LINE];

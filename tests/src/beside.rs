@@ -41,6 +41,7 @@ impl Beside {
                 most_sections,
                 row: draft.to_vec(),
                 lifts: fixed_lifts(),
+                ..Book::default()
             },
         }
     }
@@ -53,6 +54,7 @@ impl Beside {
                 most_sections,
                 row: draft.to_vec(),
                 lifts: *lifts,
+                ..Book::default()
             },
         }
     }
@@ -74,28 +76,49 @@ impl Beside {
         } else if let Call::Load { .. } = call {
             let kept = self.board.keeps_all_but_lifts(&before);
             assert!(kept, "a byte beside the lifts, {}", self.case(call));
+        } else if let Call::Mark { .. } = call {
+            let kept = self.board.keeps_all_but_marks(&before);
+            assert!(kept, "a byte beside the marks, {}", self.case(call));
         }
         self.write(call, given.0.is_ok());
         given
     }
 
-    /// The same call by the definitions, on the book's K, letters and lifts alone. The
-    /// first call is a start, which does not look at them.
+    /// The same call by the definitions, on the book's K, letters, lifts and marks alone.
+    /// The first call is a start, which does not look at them.
     fn by_book(&self, call: Call) -> Outcome {
         let book = &self.book;
-        let mut state = State::of(&book.row, book.most_sections, &book.lifts);
+        let mut state = State {
+            marks: book.stored_marks(),
+            ..State::of(&book.row, book.most_sections, &book.lifts)
+        };
         made(call, |list, output| call.make(&mut state, list, output))
     }
 
+    /// A second board, which is given nothing but the book's K, lifts and row: "exactly what
+    /// feeding only those picks would have left". The marks are the book's.
+    fn fed_anew(&self) -> Board {
+        let book = &self.book;
+        let mut board = match book.lifts == fixed_lifts() {
+            true => Board::fed(&book.row, book.most_sections),
+            false => Board::fed_under(&book.lifts, &book.row, book.most_sections),
+        };
+        board.marks_mut().copy_from_slice(&book.stored_marks());
+        board
+    }
+
     /// Writes the call into the book. "A start or a feed is accepted exactly when the
-    /// book takes it", and so is a load. Then the stored n, K, letters and lifts are the
-    /// book's, and each pick's stored lift is the one by them.
+    /// book takes it", and so are a load and "both mark calls". Then the stored n, K,
+    /// letters, lifts and marks are the book's, and each pick's stored lift is the one by
+    /// them; after going back the whole state is that of the second board.
     fn write(&mut self, call: Call, accepted: bool) {
         let case = self.case(call);
         let taken = match call {
             Call::Start { most_sections } => self.book.start(most_sections.into()),
             Call::Feed { pick, entries } => self.book.feed(pick, entries.into()),
             Call::Load { table } => self.book.load(&table.bytes()),
+            Call::Mark { name } => self.book.mark(name),
+            Call::Back { name } => self.book.back(name),
             _ => accepted,
         };
         assert_eq!(accepted, taken, "accepted or not, {case}");
@@ -105,13 +128,23 @@ impl Beside {
         assert!(self.board.letters() == self.book.row, "letters, {case}");
         assert!(self.board.codes() == self.book.word(), "codes, {case}");
         assert_eq!(self.board.lifts(), self.book.lifts, "lifts, {case}");
+        let marks = self.book.stored_marks();
+        assert_eq!(self.board.marks(), marks, "marks, {case}");
+        if let (Call::Back { .. }, true) = (call, accepted) {
+            assert!(self.board == self.fed_anew(), "not as fed anew, {case}");
+        }
     }
 
     /// The call and the draft it is made on, for a failure.
     fn case(&self, call: Call) -> String {
         let row = String::from_utf8_lossy(&self.book.row);
-        let (most_sections, lifts) = (self.book.most_sections, self.book.lifts);
-        format!("{call:?} on draft {row}, K {most_sections}, lifts {lifts:?}")
+        let Book {
+            most_sections,
+            lifts,
+            marks,
+            ..
+        } = &self.book;
+        format!("{call:?} on draft {row}, K {most_sections}, lifts {lifts:?}, marks {marks:?}")
     }
 }
 

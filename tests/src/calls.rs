@@ -1,9 +1,9 @@
-//! The thirteen calls of document 01 and of requests 2.1 and 2.5, with their refusals.
+//! The fifteen calls of document 01 and of requests 2.1, 2.5 and 2.7, with their refusals.
 //!
 //! "Each call that is given a state, other than start, tests 7 first; every call
 //! then tests those input numbers whose inputs it has, in rising order but for 5,
 //! then 8, 9 or 10, then 5." Number 13 stands "in the same place of the order" as 3; 14,
-//! 15 and 16 come "in this order after 7".
+//! 15 and 16 come "in this order after 7", and 17 and 18 are "tested where 8 is".
 //! "A refusal returns its number only; state and lent buffers keep every byte. On
 //! success, entries past those named keep theirs."
 
@@ -11,6 +11,7 @@ mod asking;
 mod feeding;
 mod lifting;
 mod loading;
+mod marking;
 mod reading;
 mod showing;
 mod splitting;
@@ -20,6 +21,7 @@ pub use asking::{longest_centre, mask_of_prefix, next_ending, radius_at, NextEnd
 pub use feeding::{feed, start, Taken};
 pub use lifting::lift;
 pub use loading::load;
+pub use marking::{back, mark};
 pub use reading::{section_at, unfold, Section};
 pub use showing::{show, show_number};
 pub use splitting::{folded_record, split};
@@ -28,7 +30,7 @@ pub use state::State;
 /// A call's values, or the number it is refused with.
 pub type Answer<T> = Result<T, Refusal>;
 
-/// A refusal number, 1 to 16.
+/// A refusal number, 1 to 18.
 pub type Refusal = u8;
 
 /// A refusal of a call with numbers that name a place: "a place coming beside the number
@@ -38,7 +40,7 @@ pub type Placed = (Refusal, Option<usize>);
 /// 1: K outside 1 to 8, or k outside 1 to K.
 const SECTIONS_OUT_OF_RANGE: Refusal = 1;
 
-/// 2: pick not A to Z, in feeding or in looking up a lift.
+/// 2: pick not A to Z, in feeding or in looking up a lift; a name outside A to Z.
 const NOT_A_PICK: Refusal = 2;
 
 /// 3: visit list under 19 entries.
@@ -84,6 +86,12 @@ const A_LIFT_OF_0: Refusal = 15;
 
 /// 16: the draft is not empty.
 const DRAFT_NOT_EMPTY: Refusal = 16;
+
+/// 17: no such mark.
+const NO_SUCH_MARK: Refusal = 17;
+
+/// 18: a fifth name.
+const A_FIFTH_NAME: Refusal = 18;
 
 /// The refusal number when its line is met.
 fn refuse_if(met: bool, number: Refusal) -> Answer<()> {

@@ -5,7 +5,7 @@
 //! `fast` answers the same questions for drafts of 2,048 picks by tables.
 //! Both are given the word of a draft: the lifts of its picks, "two picks are the same
 //! when their lifts are equal". Letters are for records alone.
-//! `calls` holds the thirteen calls with their refusals, and `book` the plain book.
+//! `calls` holds the fifteen calls with their refusals, and `book` the plain book.
 //! `fields` reads a record field by field.
 //! `draft` is the draft program as a function from bytes to bytes, and `spoken` the
 //! console as one from a line to the lines that answer it.
@@ -52,6 +52,9 @@ pub const LAST_PICK: u8 = 90;
 
 /// "In letter order A to Z": how many letters there are, and so lifts of a table.
 pub const LETTERS: usize = 26;
+
+/// "The state gains up to four marks."
+pub const MOST_MARKS: usize = 4;
 
 /// Byte 10, which closes the folded record and every line of the draft program.
 pub const LINE_END: u8 = 10;

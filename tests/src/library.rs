@@ -2,8 +2,8 @@
 //! declares them.
 //!
 //! Places are in whole picks, centres in half picks. All that is lent stands between
-//! guard entries: letters, codes, lifts, the lanes by centre, those by place, and every list and
-//! buffer. They are looked at after each call, so that a write outside is seen, and so
+//! guard entries: letters, codes, lifts, marks, the lanes by centre, those by place, and every
+//! list and buffer. They are looked at after each call, so that a write outside is seen, and so
 //! is a write to what calls only read.
 
 mod board;

@@ -1,11 +1,12 @@
 //! The refusals that hang on the call's arguments and the stored n and K alone:
-//! numbers 1 to 4, 7, 8 and 13 to 16, which hold on any stored state.
+//! numbers 1 to 4, 7, 8 and 13 to 16, which hold on any stored state; and 17 and 18, which
+//! hang on the stored marks too.
 
 use crate::calls::{Placed, Refusal};
 use crate::plain::{is_most_sections, is_pick};
 use crate::scripted::Call;
 use crate::tables::Table;
-use crate::{LETTERS, MOST_PICKS, VISIT_ROOM};
+use crate::{FIRST_PICK, LETTERS, MOST_MARKS, MOST_PICKS, VISIT_ROOM};
 
 /// The lines that a call tests, in its order, each with whether it is met.
 type Lines = Vec<(bool, Refusal)>;
@@ -60,6 +61,7 @@ fn lines(call: Call, n: usize, most_sections: usize) -> Lines {
             vec![(centre_is_outside(centre, n), 4)]
         }
         Call::Lift { letter } => vec![(!is_pick(letter), 2)],
+        Call::Mark { name } | Call::Back { name } => vec![(!is_pick(name), 2)],
         Call::Load { table } => vec![
             (usize::from(table.length) != LETTERS, 14),
             (first_0(table).is_some(), 15),
@@ -84,6 +86,18 @@ fn k_is_outside(k: u8, most_sections: usize) -> bool {
 fn centre_is_outside(centre: u16, n: usize) -> bool {
     let last = n.saturating_mul(2).saturating_add(1);
     !(1..=last).contains(&usize::from(centre))
+}
+
+/// The number that hangs on the stored marks, for a call that meets no other line: "17, no
+/// such mark; 18, a fifth name". An entry is 0 where the letter is no mark.
+pub fn listed_by_marks(call: Call, marks: &[u16; LETTERS]) -> Option<Refusal> {
+    let is_mark = |name: u8| marks[usize::from(name - FIRST_PICK)] > 0;
+    let count = marks.iter().filter(|&&entry| entry > 0).count();
+    match call {
+        Call::Back { name } => (!is_mark(name)).then_some(17),
+        Call::Mark { name } => (!is_mark(name) && count >= MOST_MARKS).then_some(18),
+        _ => None,
+    }
 }
 
 /// The numbers that hang on what is found in the draft, for a call that meets none of

@@ -21,6 +21,8 @@ pub enum Call {
     Record { prefix: u16, k: u8, bytes: u16 },
     Lift { letter: u8 },
     Load { table: Table },
+    Mark { name: u8 },
+    Back { name: u8 },
 }
 
 /// The most values that a call gives.
@@ -62,6 +64,8 @@ impl Call {
             Call::Record { prefix, k, bytes } => (7, k, prefix, bytes),
             Call::Lift { letter } => (8, letter, 0, 0),
             Call::Load { table } => (9, 0, 0, table.length),
+            Call::Mark { name } => (10, name, 0, 0),
+            Call::Back { name } => (11, name, 0, 0),
         };
         let ([at_low, at_high], [lent_low, lent_high]) = (at.to_le_bytes(), lent.to_le_bytes());
         [number, byte, at_low, at_high, lent_low, lent_high]
@@ -95,7 +99,11 @@ impl Call {
     pub fn only_reads(self) -> bool {
         !matches!(
             self,
-            Call::Start { .. } | Call::Feed { .. } | Call::Load { .. }
+            Call::Start { .. }
+                | Call::Feed { .. }
+                | Call::Load { .. }
+                | Call::Mark { .. }
+                | Call::Back { .. }
         )
     }
 
@@ -124,6 +132,8 @@ impl Call {
             }
             Call::Lift { letter } => one_value(calls::lift(state, letter).map(usize::from)),
             Call::Load { table } => calls::load(state, &table.bytes()).and_then(|()| given([])),
+            Call::Mark { name } => values(calls::mark(state, name).map(|()| [])),
+            Call::Back { name } => values(calls::back(state, name).map(|()| [])),
         }
     }
 }

@@ -1,7 +1,8 @@
 //! The console as a function from a line to the lines that answer it.
 //!
 //! Every call is made by the comparison program, with the numbers that the line has. On
-//! a stored state that no run made only the refusals that hang on no letters are known.
+//! a stored state that no run made only the refusals that hang on no letters are known,
+//! and lifts, loads, marks and backs; behind an accepted back all is known again.
 
 mod arrays;
 mod asked;
@@ -12,7 +13,7 @@ mod stateless;
 mod text;
 mod words;
 
-use crate::calls::{self, Placed, State};
+use crate::calls::{self, Answer, Placed, State};
 use crate::listed::listed;
 use crate::plain;
 use crate::LINE_END;
@@ -27,8 +28,9 @@ pub use expected::Expected;
 pub use lines::WORDS;
 pub use text::text_of;
 
-/// The console: the stored state; the stored centre, where it is known; whether a run
-/// made them; what is known of the arrays; whether `--all` is set; whether it has ended.
+/// The console: the stored state; the stored centre, where it is known; whether a run or
+/// a back made them; what is known of the arrays; whether `--all` is set; whether it has
+/// ended.
 pub struct Console {
     state: State,
     longest: Option<usize>,
@@ -75,6 +77,8 @@ impl Console {
             Line::Show { letters, s, ends } => shown(&letters, &ends, s),
             Line::Lift(letter) => told(calls::lift(&self.state, letter).map(usize::from)),
             Line::Load(table) => loaded(calls::load(&mut self.state, &table)),
+            Line::Mark(name) => done(calls::mark(&mut self.state, name)),
+            Line::Back(name) => done(self.back(name)),
             Line::Unfold { record, bytes } => unfolded(&record, bytes, self.all),
             Line::Section { record, at } => yielded(&record, at),
             Line::Lengths => lengths(),
@@ -85,7 +89,7 @@ impl Console {
             }
             Line::Poke { entry, value } => {
                 self.known.poke(entry, value, &mut self.state);
-                self.by_run = false;
+                self.by_run &= entry.is_mark();
                 ok(&[])
             }
             Line::Quit => {
@@ -147,6 +151,16 @@ impl Console {
         Expected::Line(expected::line(&answer, asked, &lent, self.all))
     }
 
+    /// A back. All but marks and lifts is then "exactly what feeding only those picks would
+    /// have left", whatever was stored, so that every call is known as in a run.
+    fn back(&mut self, name: u8) -> Answer<()> {
+        calls::back(&mut self.state, name)?;
+        self.by_run = true;
+        self.known.back(self.state.n);
+        self.longest = calls::longest_centre(&self.state).ok();
+        Ok(())
+    }
+
     /// "`numbers` alone `ok N K C`."
     fn numbers(&self) -> Expected {
         let State {
@@ -160,8 +174,13 @@ impl Console {
 }
 
 /// `ok` and the value, or `refused` and the number.
-fn told(answer: calls::Answer<usize>) -> String {
+fn told(answer: Answer<usize>) -> String {
     answer.map_or_else(refused, |value| ok(&[value]))
+}
+
+/// "`mark NAME` and `back NAME`" answer `ok`, or `refused` and the number.
+fn done(answer: Answer<()>) -> String {
+    answer.map_or_else(refused, |()| ok(&[]))
 }
 
 /// "`load BYTE..`" answers `ok`, or `refused NUMBER [PLACE]`.

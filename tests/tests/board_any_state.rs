@@ -1,5 +1,5 @@
 //! The library's board on stored states that no run made: every call ends, within
-//! bounds, and refusals 1 to 4, 7, 8 and 13 are as listed.
+//! bounds, and refusals 1 to 4, 7, 8 and 13 to 18 are as listed.
 
 #[path = "support/any_states.rs"]
 mod any_states;
@@ -21,16 +21,18 @@ use ends::{each_step_ends, Step};
 use some_calls::some_call;
 use std::sync::mpsc::Sender;
 
-/// Makes some calls of each kind on the state as it comes to be. Starts are left out,
-/// since they would end what no run made.
+/// Makes some calls of each kind on the state as it comes to be. Starts are left out, and
+/// goings back are made on a copy, since they would end what no run made.
 fn make_some(board: &mut Board, seed: u64, calls: usize, steps: &Sender<Step>) {
     let generator = &mut Generator(!seed);
     for number in 0..calls {
         let step = Step { seed, number };
         steps.send(step).expect("the test waits");
         let call = some_call(generator, board.n());
-        if !matches!(call, Call::Start { .. }) {
-            make_within_bounds(board, call, step);
+        match call {
+            Call::Start { .. } => {}
+            Call::Back { .. } => drop(make_within_bounds(&mut board.clone(), call, step)),
+            _ => drop(make_within_bounds(board, call, step)),
         }
     }
 }

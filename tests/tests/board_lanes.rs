@@ -11,7 +11,7 @@ use comparison::library::{
 };
 use comparison::plain;
 use comparison::samples::{every_draft_to, Generator};
-use comparison::{FIRST_PICK, MOST_PICKS, MOST_SECTIONS, VISIT_ROOM};
+use comparison::{FIRST_PICK, LETTERS, MOST_PICKS, MOST_SECTIONS, VISIT_ROOM};
 use words::compare_words;
 
 /// The radius at each centre up to the longest ending's; nothing is stored behind it.
@@ -74,7 +74,7 @@ fn assert_rest_untouched(board: &Board, name: &str) {
     }
 }
 
-/// The letters of the draft, their lifts, and the fixed lifts in force.
+/// The letters of the draft, their lifts, and the fixed lifts in force; no mark.
 fn compare_bytes(board: &Board, draft: &[u8], name: &str) {
     let n = board.n();
     let lifts = plain::fixed_lifts();
@@ -82,9 +82,10 @@ fn compare_bytes(board: &Board, draft: &[u8], name: &str) {
     let word = plain::word(&lifts, &draft[..n]);
     assert!(board.codes() == word, "{name}, codes");
     assert_eq!(board.lifts(), lifts, "{name}, lifts");
+    assert_eq!(board.marks(), [0; LETTERS], "{name}, marks");
 }
 
-/// Compares every entry of every lane, every letter, code and lift.
+/// Compares every entry of every lane, every letter, code, lift and mark.
 fn compare_lanes(board: &Board, fast: &Fast, draft: &[u8], name: &str) {
     let name = &format!("{name}, after {}", board.n());
     compare_bytes(board, draft, name);
@@ -118,6 +119,23 @@ fn lanes_of_full_drafts() {
             }
         }
         assert_eq!(board.n(), MOST_PICKS, "{name}");
+    }
+}
+
+/// Each letter has its own entry among the marks, A to Z, one more than the draft's length;
+/// nothing else is stored.
+#[test]
+fn marks_by_letter() {
+    for (at, name) in (FIRST_PICK..).take(LETTERS).enumerate() {
+        for length in [0, 1, at, 255, 256, MOST_PICKS] {
+            let before = Board::fed(&vec![b'A'; length], MOST_SECTIONS);
+            let mut board = before.clone();
+            assert_eq!(board.mark(name), Ok(()), "{name} at {length}");
+            let mut marks = [0; LETTERS];
+            marks[at] = length as u16 + 1;
+            assert_eq!(board.marks(), marks, "{name} at {length}");
+            assert!(board.keeps_all_but_marks(&before), "{name} at {length}");
+        }
     }
 }
 

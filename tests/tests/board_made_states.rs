@@ -78,8 +78,8 @@ fn three_sections(ends: [u16; 3]) -> Board {
 }
 
 /// A call of each kind but load, with arguments that no line of 1 to 4 and 13 refuses on a
-/// good state.
-fn good_calls(n: usize) -> [Call; 9] {
+/// good state; back and mark are refused with 17 or 18 only where the stored marks say so.
+fn good_calls(n: usize) -> [Call; 11] {
     let prefix = n.min(MOST_PICKS) as u16;
     [
         Call::Start { most_sections: 4 },
@@ -102,6 +102,8 @@ fn good_calls(n: usize) -> [Call; 9] {
             bytes: 40,
         },
         Call::Lift { letter: 90 },
+        Call::Mark { name: 90 },
+        Call::Back { name: 90 },
     ]
 }
 
@@ -163,9 +165,48 @@ fn every_stored_k() {
     }
 }
 
+/// Of ABBA with every stored mark, of a length up to n, above it and far beyond: going back
+/// keeps at most all picks, and drops the marks that are longer than this one alone.
+#[test]
+fn every_stored_mark() {
+    let far = (0..=u16::MAX).step_by(251).chain(65_530..=u16::MAX);
+    for entry in (0..2_100).chain(far) {
+        let mut board = Board::fed(b"ABBA", 8);
+        let beside = [entry.saturating_sub(1), entry, entry.saturating_add(1)];
+        board.marks_mut()[..3].copy_from_slice(&beside);
+        board.marks_mut()[25] = entry;
+        let case = format!("entry {entry}");
+        let number = make_within_bounds(&mut board, Call::Back { name: 90 }, &case);
+        assert_eq!(number, (entry == 0).then_some(17), "{case}");
+        if entry > 0 {
+            assert_eq!(board.n(), usize::from(entry - 1).min(4), "{case}");
+            let longer = if entry < u16::MAX { 0 } else { entry };
+            assert_eq!(board.marks()[..3], [entry - 1, entry, longer], "{case}");
+        }
+    }
+}
+
+/// Every count of stored marks: with four and more, 18 for every name that is none of them.
+#[test]
+fn every_count_of_marks() {
+    for count in 0..=26 {
+        for entry in [1, 4, 5, 6, 2_049, 2_050, u16::MAX] {
+            for name in b'A'..=b'Z' {
+                let mut board = Board::fed(b"ABBA", 8);
+                board.marks_mut()[..count].fill(entry);
+                let case = format!("{count} marks of entry {entry}");
+                let number = make_within_bounds(&mut board, Call::Mark { name }, &case);
+                let is_mark = usize::from(name - b'A') < count;
+                let is_fifth = count >= 4 && !is_mark;
+                assert_eq!(number, is_fifth.then_some(18), "{case}, name {name}");
+            }
+        }
+    }
+}
+
 /// Calls with an argument that a line of 1 to 4 or 13 refuses on every state but one of
 /// line 7.
-fn bad_calls() -> [Call; 9] {
+fn bad_calls() -> [Call; 11] {
     [
         Call::Start { most_sections: 9 },
         Call::Feed {
@@ -191,6 +232,8 @@ fn bad_calls() -> [Call; 9] {
             bytes: 40,
         },
         Call::Lift { letter: 91 },
+        Call::Mark { name: 64 },
+        Call::Back { name: 91 },
     ]
 }
 

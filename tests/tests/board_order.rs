@@ -1,6 +1,7 @@
 //! Which number the library gives when the lines of several are met: every subset of
 //! the lines of each call. 7 first, then the input numbers in rising order but for 5,
-//! 13 in the place of 3, then 8, 9 or 10, then 5; of a load 7, 14, 15, 16.
+//! 13 in the place of 3, then 8, 9 or 10, then 5; of a load 7, 14, 15, 16; of a mark 7, 2,
+//! 18, and of going back 7, 2, 17.
 
 use comparison::beside::{BYTE, ENTRY};
 use comparison::calls::Refusal;
@@ -150,6 +151,42 @@ fn load() {
             }
             let draft = if meets(16) { &b"AB"[..] } else { b"" };
             (stored(draft, meets(7)), Call::Load { table })
+        });
+    }
+}
+
+/// Bytes that are no letter.
+const NO_LETTERS: [u8; 6] = [0, b'@', b'[', b'a', 200, 255];
+
+/// Marks of these letters at the end of AB, stored beside each other.
+fn marked(names: &[u8], meets_7: bool) -> Board {
+    let mut board = stored(b"AB", meets_7);
+    for name in names {
+        board.marks_mut()[usize::from(name - b'A')] = 3;
+    }
+    board
+}
+
+/// A name that is no letter is none of the marks either: with three of them, and with four.
+#[test]
+fn mark() {
+    for no_letter in NO_LETTERS {
+        assert_order(&[7, 2, 18], |meets| {
+            let names = if meets(18) { &b"BMNZ"[..] } else { b"BMN" };
+            let name = if meets(2) { no_letter } else { b'A' };
+            (marked(names, meets(7)), Call::Mark { name })
+        });
+    }
+}
+
+/// A name that is no letter is no mark; so is one that is none of three others.
+#[test]
+fn back() {
+    for no_letter in NO_LETTERS {
+        assert_order(&[7, 2, 17], |meets| {
+            let names = if meets(17) { &b"BMN"[..] } else { b"ABMN" };
+            let name = if meets(2) { no_letter } else { b'A' };
+            (marked(names, meets(7)), Call::Back { name })
         });
     }
 }

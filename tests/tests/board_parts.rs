@@ -1,5 +1,6 @@
-//! What a call that only reads may not read counts for nothing in it: row words of prefixes
-//! above its own (document 02, 2.6), and every array that it is not lent.
+//! What a call may not read counts for nothing in it: of one that only reads, row words of
+//! prefixes above its own (document 02, 2.6), and every array that it is not lent; of a mark and
+//! a going back, all but the marks, the lifts and the picks that are kept.
 
 #[path = "support/any_states.rs"]
 mod any_states;
@@ -62,6 +63,22 @@ fn all_else_changed(state: &Board, call: Call, anything: &Board) -> Board {
 fn only_numbers(state: &Board, anything: &Board) -> Board {
     let mut other = anything.clone();
     other.store(state.n(), state.most_sections(), state.longest());
+    other
+}
+
+/// The state's n, K and marks, and of going back its lifts and the letters that are kept;
+/// anything else in the other arrays, behind those letters and as the stored centre.
+fn all_but_kept_changed(state: &Board, call: Call, anything: &Board) -> Board {
+    let mut other = anything.clone();
+    let marks = state.marks();
+    other.store(state.n(), state.most_sections(), anything.n());
+    other.marks_mut().copy_from_slice(&marks);
+    if let Call::Back { name } = call {
+        let length = usize::from(marks[usize::from(name - b'A')]).saturating_sub(1);
+        let letters = &state.stored_picks()[0][..length.min(state.n()).min(MOST_PICKS)];
+        other.letters_mut()[..letters.len()].copy_from_slice(letters);
+        other.lifts_mut().copy_from_slice(&state.lifts());
+    }
     other
 }
 
@@ -187,4 +204,58 @@ fn any_stored_bytes() {
         }
     }
     seen.at_least(600);
+}
+
+/// Marks and goes back, to each letter, on the state and on others that differ in what is not
+/// read. Going back leaves them the same in every byte. Gives how many were accepted.
+fn compare_marks(state: &Board, anythings: &[Board], case: &str) -> [usize; 2] {
+    let mut accepted = [0, 0];
+    for name in b'A'..=b'Z' {
+        for (at, call) in [Call::Mark { name }, Call::Back { name }]
+            .into_iter()
+            .enumerate()
+        {
+            let mut board = state.clone();
+            let reply = board.make(call, &mut [], &mut []);
+            for anything in anythings {
+                let mut other = all_but_kept_changed(state, call, anything);
+                let second = other.make(call, &mut [], &mut []);
+                assert_eq!(second, reply, "{call:?}, {case}");
+                assert_eq!(other.marks(), board.marks(), "{call:?}, {case}");
+                let is_back = at == 1 && reply.is_ok();
+                assert!(!is_back || other == board, "{call:?}, {case}");
+            }
+            accepted[at] += usize::from(reply.is_ok());
+        }
+    }
+    accepted
+}
+
+/// On true drafts with four marks, of which one is of no pick and one of all, and on states
+/// that no run made.
+#[test]
+fn marks() {
+    let (anythings, mut accepted) = (anythings(), [0, 0]);
+    for seed in 0..50 {
+        let generator = &mut Generator(seed);
+        let length = generator.below(300);
+        let mut marked = Board::fed(&generator.draft(3, length), MOST_SECTIONS);
+        for name in [3, 7, 0, 25] {
+            marked.marks_mut()[name] = 1 + generator.below(length + 1) as u16;
+        }
+        marked.marks_mut()[3] = 1;
+        marked.marks_mut()[7] = length as u16 + 1;
+        let any = any_state(generator);
+        let states = [
+            marked,
+            spoiled_state(generator),
+            with_any_numbers(any.clone(), generator),
+            any,
+        ];
+        for state in states {
+            let more = compare_marks(&state, &anythings, &format!("seed {seed}"));
+            accepted = [accepted[0] + more[0], accepted[1] + more[1]];
+        }
+    }
+    assert!(accepted.iter().all(|&count| count > 700), "{accepted:?}");
 }

@@ -46,9 +46,10 @@ fn make(run: &mut Beside, call: Call) -> Reply {
 
 /// How many calls were accepted, and how many refused; how many were splits in which every
 /// section turns, and how many such as have sections of one pick; how many were loads,
-/// accepted and refused; and how many feeds took a pick whose draft has another mask by its
-/// letters than by its lifts.
-type Counts = [usize; 7];
+/// accepted and refused; how many feeds took a pick whose draft has another mask by its
+/// letters than by its lifts; how many marks were set, and how many were a fifth; and how many
+/// goings back left fewer picks, and how many found no such mark.
+type Counts = [usize; 11];
 
 /// Whether a feed was taken whose mask would be another by the letters.
 fn differs_by_letters(run: &Beside, call: Call, reply: Reply) -> bool {
@@ -63,9 +64,10 @@ fn differs_by_letters(run: &Beside, call: Call, reply: Reply) -> bool {
 
 /// Makes some calls, and counts them.
 fn make_some(run: &mut Beside, generator: &mut Generator, calls: usize) -> Counts {
-    let mut counts = [0; 7];
+    let mut counts = [0; 11];
     for _ in 0..calls {
-        let call = some_call(generator, run.book.row.len());
+        let n = run.book.row.len();
+        let call = some_call(generator, n);
         let reply = make(run, call);
         counts[usize::from(reply.is_err())] += 1;
         if let (Call::Split { k, .. }, Ok([turns, ..])) = (call, reply) {
@@ -75,27 +77,33 @@ fn make_some(run: &mut Beside, generator: &mut Generator, calls: usize) -> Count
             counts[4 + usize::from(reply.is_err())] += 1;
         }
         counts[6] += usize::from(differs_by_letters(run, call, reply));
+        counts[7] += usize::from(matches!((call, reply), (Call::Mark { .. }, Ok(_))));
+        counts[8] += usize::from(reply == refused(18));
+        counts[9] += usize::from(matches!(call, Call::Back { .. }) && run.book.row.len() < n);
+        counts[10] += usize::from(reply == refused(17));
     }
     counts
 }
 
-/// 10,000 runs of some 30 calls each. Many calls of both kinds must be among them, many
-/// splits and many loads of both kinds, and many drafts that are mirrored by lifts alone.
+/// 10,000 runs of some 35 calls each. Many calls of both kinds must be among them, many
+/// splits, loads, marks and goings back of both kinds, and many drafts that are mirrored by
+/// lifts alone.
 #[test]
 fn random_runs() {
     let generator = &mut Generator(41);
-    let mut counts = [0; 7];
+    let mut counts = [0; 11];
     for _ in 0..10_000 {
         let run = &mut some_run(generator);
-        let calls = 20 + generator.below(20);
+        let calls = 25 + generator.below(20);
         let more = make_some(run, generator, calls);
         counts = std::array::from_fn(|at| counts[at] + more[at]);
     }
-    let [accepted, refused, turning, passing, loads, refused_loads, alike] = counts;
+    let [accepted, refused, turning, passing, loads, refused_loads, alike, marking @ ..] = counts;
     assert!(accepted.min(refused) > 60_000, "{counts:?}");
     assert!(turning > 300 && passing > 2_000, "{counts:?}");
     assert!(loads.min(refused_loads) > 5_000, "{counts:?}");
     assert!(alike > 10_000, "{counts:?}");
+    assert!(marking.iter().all(|&count| count > 1_000), "{counts:?}");
 }
 
 /// Runs of some hundred calls each.

@@ -200,11 +200,39 @@ fn each_load_reads_behind_the_one_before() {
     }
 }
 
-/// A call number above 9 ends the script, wherever it stands.
+/// A mark and a going back are lent nothing, whatever stands in their last four bytes; the
+/// call behind them is lent the front of the lists.
+#[test]
+fn marks_are_lent_nothing() {
+    let (name, entries) = (b'Q', 19);
+    let calls = [
+        Call::Start { most_sections: 8 },
+        Call::Mark { name },
+        Call::Back { name },
+        Call::Feed { pick: 65, entries },
+        Call::Back { name },
+        Call::Mark { name: b'@' },
+        Call::Back { name: b'R' },
+        Call::Feed { pick: 66, entries },
+    ];
+    for last in [[1, 0, 1, 0], [0, 1, 0, 1], [255; 4], [0, 0, 255, 255]] {
+        let mut bytes = script(&calls);
+        for at in [1, 2, 4, 5, 6] {
+            bytes[CALL_BYTES * at + 2..][..4].copy_from_slice(&last);
+        }
+        let mut lent = Lent::to(&calls, ENTRY, BYTE);
+        lent.input.clear();
+        let case = format!("last bytes {last:?}");
+        assert_made(&bytes, &mut lent, &calls, calls.len(), &case);
+        assert_eq!(lent.replies(8)[4..7], [given([]), refused(2), refused(17)]);
+    }
+}
+
+/// A call number above 11 ends the script, wherever it stands.
 #[test]
 fn a_call_number_that_there_is_not() {
     let calls = some_calls_of_each_kind(&mut Generator(74), 12);
-    for number in 10..=255 {
+    for number in 12..=255 {
         let at = usize::from(number) % calls.len();
         let mut bytes = script(&calls);
         bytes[CALL_BYTES * at] = number;

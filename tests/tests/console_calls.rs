@@ -7,6 +7,8 @@ mod console;
 mod console_session;
 #[path = "support/far_places.rs"]
 mod far_places;
+#[path = "support/mark_lines.rs"]
+mod mark_lines;
 #[path = "support/next_lines.rs"]
 mod next_lines;
 #[path = "support/refusals.rs"]
@@ -20,6 +22,7 @@ use comparison::MOST_PICKS;
 use console::compare;
 use console_session::compare_session;
 use far_places::assert_far_are_not_cut;
+use mark_lines::{assert_every_count, assert_every_length, assert_every_name, assert_full_drafts};
 use next_lines::assert_every_centre;
 use refusals::refusals;
 use turn_lines::assert_turn_counts;
@@ -40,6 +43,29 @@ fn the_mills_own_lifts() {
     compare_session(false, include_str!("support/sessions/alike.txt"));
 }
 
+/// Marks and backs: what they store, which marks a back drops, the picks behind it, the
+/// lifts that stay, a load behind a back to no pick; 17 and 18.
+#[test]
+fn marks() {
+    compare_session(false, include_str!("support/sessions/marks.txt"));
+}
+
+/// Every byte as a name, and every number of marks.
+#[test]
+fn names_of_marks() {
+    for all in [false, true] {
+        assert_every_name(|input| compare(all, input));
+        assert_every_count(|input| compare(all, input));
+    }
+}
+
+/// From every length of a draft to every mark, and in full drafts.
+#[test]
+fn backs_to_every_length() {
+    assert_every_length(|input| compare(false, input));
+    assert_full_drafts(|input| compare(false, input));
+}
+
 /// "With `--all` the whole list or output is printed as it stands after every call."
 #[test]
 fn the_whole_of_what_is_lent() {
@@ -47,7 +73,8 @@ fn the_whole_of_what_is_lent() {
 }
 
 /// The numbers of each call in their order: feed 7, 2, 3, 8; split 7, 1, 13, 4, 9; record
-/// 7, 1, 4, 9, 5; next shorter ending 7, 4, 10; show 4, 6; the others.
+/// 7, 1, 4, 9, 5; next shorter ending 7, 4, 10; mark 7, 2, 18; back 7, 2, 17; show 4, 6; the
+/// others.
 #[test]
 fn the_order_of_numbers() {
     compare_session(false, include_str!("support/sessions/order_of_feed.txt"));
@@ -56,6 +83,9 @@ fn the_order_of_numbers() {
         include_str!("support/sessions/order_of_split_and_record.txt"),
     );
     compare_session(false, include_str!("support/sessions/order_of_others.txt"));
+    for all in [false, true] {
+        compare_session(all, include_str!("support/sessions/order_of_marks.txt"));
+    }
 }
 
 /// The next shorter ending's centre, and the length and the least period of the ending
@@ -158,18 +188,38 @@ fn both_sides_of_each_bound() {
     }
 }
 
-/// Picks and letters as numbers, every byte and beyond it, as bytes, and as characters of
-/// several bytes.
-#[test]
-fn picks_as_numbers_and_as_characters() {
+/// Numbers, every byte and beyond it, bytes, and characters of several bytes.
+fn characters() -> impl Iterator<Item = Vec<u8>> {
     let numbers = (0..=300).map(|number: usize| number.to_string().into_bytes());
     let bytes = (0..=255).filter(|byte| !b" \t\r\n".contains(byte));
     let characters = ["\u{e9}", "\u{3bb}", "\u{1f9f5}", "\u{c1}", "\u{141}"];
-    let words = numbers
+    numbers
         .chain(bytes.map(|byte| vec![byte]))
-        .chain(characters.map(|character| character.as_bytes().to_vec()));
+        .chain(characters.map(|character| character.as_bytes().to_vec()))
+}
+
+/// Names as numbers, as bytes and as characters: those of letters are set and gone back to,
+/// each by itself.
+#[test]
+fn names_as_numbers_and_as_characters() {
+    let mut input = Vec::new();
+    for word in characters() {
+        input.extend([b"start 3\nmark ", &word[..], b"\nback ", &word, b"\n"].concat());
+    }
+    let answers = compare(false, input);
+    let count = characters().count();
+    let taken = answers.iter().filter(|answer| *answer == "ok");
+    assert_eq!(taken.count(), count + 4 * 26, "letters among them");
+    let refused = answers.iter().filter(|answer| *answer == "refused 2");
+    assert_eq!(refused.count(), 2 * (count - 2 * 26), "the others");
+    compare_session(false, include_str!("support/sessions/names.txt"));
+}
+
+/// Picks and letters in the same ways.
+#[test]
+fn picks_as_numbers_and_as_characters() {
     let mut input = b"start 3\n".to_vec();
-    for word in words {
+    for word in characters() {
         input.extend([b"feed ", &word[..], b"\nlift ", &word, b"\n"].concat());
     }
     let answers = compare(false, input);

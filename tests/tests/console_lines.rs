@@ -39,7 +39,7 @@ fn assert_no_calls_with(places: &[&str], words: &[&str]) {
 }
 
 /// Every place of a number.
-const NUMBERS: [&str; 24] = [
+const NUMBERS: [&str; 26] = [
     "start N",
     "load N",
     "load 1 N 3",
@@ -63,6 +63,8 @@ const NUMBERS: [&str; 24] = [
     "numbers 1 1 N",
     "poke rows N 1",
     "poke rows 1 N",
+    "poke marks 1 N",
+    "peek marks N",
     "peek rows N",
 ];
 
@@ -90,6 +92,7 @@ fn numbers_beyond_their_types() {
     let values = [
         "poke letters 0 N",
         "poke rows 0 N",
+        "poke marks 0 N",
         "peek rows N",
         "poke rows N 0",
     ];

@@ -27,10 +27,11 @@ fn assert_next(process: &mut Process, answer: &str) {
 }
 
 /// Lines of each kind of answer.
-const LINES: [&str; 14] = [
+const LINES: [&str; 18] = [
     "numbers",
     "start 8",
     "feed A",
+    "mark M",
     "picks BAB",
     "split 4 4",
     "nothing",
@@ -39,6 +40,9 @@ const LINES: [&str; 14] = [
     "unfold 7x",
     "picks -",
     "longest",
+    "back M",
+    "numbers",
+    "back N",
     "help",
     "poke rows 0 2",
     "quit",

@@ -16,7 +16,7 @@ use console::compare;
 use refusals::refusals;
 
 /// Lines that are no call.
-const NO_CALLS: [&str; 10] = [
+const NO_CALLS: [&str; 12] = [
     "",
     "feed",
     "feed AB",
@@ -27,16 +27,21 @@ const NO_CALLS: [&str; 10] = [
     "peek rows 2049",
     "load 1 256",
     "load A",
+    "mark",
+    "back AB",
 ];
+
+/// Names as characters, of which more than four are good.
+const NAMES: [&str; 9] = ["A", "B", "C", "D", "E", "F", "Z", "a", "@"];
 
 /// A line of some call, some of them as only the console takes them.
 fn some_line(generator: &mut Generator, n: usize) -> String {
     let call = some_call(generator, n);
-    match generator.below(24) {
+    match generator.below(28) {
         0 => some_picks(generator),
         1 => "numbers".to_string(),
         2 => {
-            let name = ["letters", "codes", "lifts"][generator.below(3)];
+            let name = ["letters", "codes", "lifts", "marks"][generator.below(4)];
             format!("peek {name} {}", generator.below(n + 2))
         }
         3 => NO_CALLS[generator.below(NO_CALLS.len())].to_string(),
@@ -44,6 +49,8 @@ fn some_line(generator: &mut Generator, n: usize) -> String {
         5 => format!("{call}000000000000000000000"),
         6 => format!("{call} 18446744073709551617"),
         7..=10 => format!("feed {}", ["A", "B", "A", "b", "?"][generator.below(5)]),
+        11..=13 => format!("mark {}", NAMES[generator.below(NAMES.len())]),
+        14 => format!("back {}", NAMES[generator.below(NAMES.len())]),
         _ => call,
     }
 }
@@ -60,13 +67,13 @@ fn some_picks(generator: &mut Generator) -> String {
     }
 }
 
-/// 400 sessions of 60 lines. Each number but 8 must be among the answers often, and so
+/// 600 sessions of 60 lines. Each number but 8 must be among the answers often, and so
 /// must be accepted calls.
 #[test]
 fn random_sessions() {
     let generator = &mut Generator(61);
     let mut answers = Vec::new();
-    for at in 0..400 {
+    for at in 0..600 {
         let all = at % 2 == 0;
         let opening = match generator.below(8) {
             0 => String::new(),

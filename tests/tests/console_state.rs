@@ -7,6 +7,8 @@ mod call_lines;
 mod console;
 #[path = "support/console_session.rs"]
 mod console_session;
+#[path = "console_state/marks.rs"]
+mod marks;
 #[path = "support/refusals.rs"]
 mod refusals;
 
@@ -16,7 +18,7 @@ use comparison::plain::{fixed_lifts, word};
 use comparison::samples::Generator;
 use comparison::spoken::{Array, ARRAYS};
 use comparison::structured::broken_cubes;
-use comparison::{MOST_PICKS, MOST_SECTIONS};
+use comparison::{LETTERS, MOST_PICKS, MOST_SECTIONS};
 use console::compare;
 use console_session::compare_session;
 use refusals::refusals;
@@ -107,8 +109,8 @@ fn some_pokes(generator: &mut Generator, count: usize) -> String {
     input
 }
 
-/// After a start every entry is 0 but rows 0 and gathered 0, which are 1, and the fixed
-/// lifts; and the numbers are 0, K and 1, whatever was stored.
+/// After a start every entry is 0, those of the marks too, but rows 0 and gathered 0, which
+/// are 1, and the fixed lifts; and the numbers are 0, K and 1, whatever was stored.
 #[test]
 fn a_start() {
     let generator = &mut Generator(72);
@@ -143,13 +145,14 @@ fn the_names_of_the_arrays() {
         board.place_lane(GATHERED),
     ];
     let last = 2 * draft.len() + 3;
-    let answers = compare(false, format!("start 8\npicks {picks}\n{}", peeks_to(last)));
+    let fed = format!("start 8\nmark B\npicks {picks}\nmark Z\n");
+    let answers = compare(false, format!("{fed}{}", peeks_to(last)));
     let bytes = [
         &draft,
         &word(&fixed_lifts(), &draft),
         &fixed_lifts().to_vec(),
     ];
-    let mut rest = &answers[1 + draft.len()..];
+    let mut rest = &answers[3 + draft.len()..];
     for (bytes, array) in bytes.into_iter().zip(&ARRAYS) {
         let given;
         (given, rest) = rest.split_at(array.length.min(last + 1));
@@ -160,12 +163,16 @@ fn the_names_of_the_arrays() {
             array.name
         );
     }
+    let (given, rest) = rest.split_at(LETTERS);
+    let mut marks = vec!["ok 0".to_string(); LETTERS];
+    (marks[1], marks[25]) = ("ok 1".to_string(), format!("ok {}", draft.len() + 1));
+    assert_eq!(given, marks, "marks at 0 and at the end, draft {picks}");
     for (at, (lane, given)) in lanes.iter().zip(rest.chunks(last + 1)).enumerate() {
         let stored: Vec<String> = lane[..=last]
             .iter()
             .map(|entry| format!("ok {entry}"))
             .collect();
-        let name = ARRAYS[at + 3].name;
+        let name = ARRAYS[at + 4].name;
         assert_eq!(given, stored, "{name}, draft {picks}");
         let alike = lanes.iter().filter(|other| other[..=last] == lane[..=last]);
         assert_eq!(
@@ -239,13 +246,14 @@ fn some_line(generator: &mut Generator, n: usize) -> String {
     }
 }
 
-/// Every call on states that no run made: 1 to 4, 7, 8 and 13 to 16 are given as listed, and
-/// every other answer is one that the call can have.
+/// Every call on states that no run made: 1 to 4, 7, 8 and 13 to 18 are given as listed, and
+/// every other answer is one that the call can have; behind an accepted back it is the one
+/// that the kept picks have.
 #[test]
 fn states_that_no_run_made() {
     let generator = &mut Generator(74);
     let mut answers = Vec::new();
-    for at in 0..160 {
+    for at in 0..200 {
         let all = at % 2 == 0;
         let length = generator.below(50);
         let picks = String::from_utf8(broken_cubes(generator, 2, length)).expect("letters");
@@ -261,7 +269,7 @@ fn states_that_no_run_made() {
     }
     let times = refusals(&answers);
     assert!(times[0] > 4_000, "{} are accepted", times[0]);
-    for number in [1, 2, 3, 4, 5, 7, 8, 9, 10, 13, 14, 15, 16] {
+    for number in [1, 2, 3, 4, 5, 7, 8, 9, 10, 13, 14, 15, 16, 17, 18] {
         assert!(times[number] > 0, "number {number} is never given");
     }
 }

@@ -10,6 +10,8 @@ mod c_program;
 mod call_lines;
 #[path = "support/far_places.rs"]
 mod far_places;
+#[path = "support/mark_lines.rs"]
+mod mark_lines;
 #[path = "support/next_lines.rs"]
 mod next_lines;
 #[path = "support/process.rs"]
@@ -28,6 +30,7 @@ use comparison::samples::Generator;
 use comparison::spoken::text_of;
 use comparison::MOST_PICKS;
 use far_places::assert_far_are_not_cut;
+use mark_lines::{assert_every_count, assert_every_length, assert_every_name, assert_full_drafts};
 use next_lines::assert_every_centre;
 use process::Process;
 use std::io::Write;
@@ -67,14 +70,15 @@ fn compare(program: &Path, input: &str) -> Vec<String> {
     answers
 }
 
-/// Each call with document 01's worked examples, and with a mill's own lifts, in C and in
-/// C++.
+/// Each call with document 01's worked examples, with a mill's own lifts, and with marks, in
+/// C and in C++.
 #[test]
 fn the_worked_examples() {
     let in_cpp = program("g++ -x c++ -std=c++11 -O1", SOURCE, "header_calls_cpp");
     for session in [
         include_str!("support/sessions/header.txt"),
         include_str!("support/sessions/header_lifts.txt"),
+        include_str!("support/sessions/header_marks.txt"),
     ] {
         assert_session(session, |input| compare(&IN_C, input));
         assert_session(session, |input| compare(&in_cpp, input));
@@ -165,6 +169,20 @@ fn every_place_of_a_table() {
     assert_eq!(accepted, 1 + 1 + 255, "loads and a start are accepted");
 }
 
+/// Every byte as a name, and every number of marks.
+#[test]
+fn names_of_marks() {
+    assert_every_name(|input| compare(&IN_C, input));
+    assert_every_count(|input| compare(&IN_C, input));
+}
+
+/// From every length of a draft to every mark, and in full drafts.
+#[test]
+fn backs_to_every_length() {
+    assert_every_length(|input| compare(&IN_C, input));
+    assert_full_drafts(|input| compare(&IN_C, input));
+}
+
 /// The next shorter ending, and the length and the least period of the one given, at every
 /// centre of many drafts.
 #[test]
@@ -211,6 +229,8 @@ fn a_library_without_the_calls() {
         "start 255",
         "load 255 0",
         "feed 255 0 0",
+        "mark 255",
+        "back 255",
         "mask 255 0",
         "radius 255 0",
         "longest 255 0",

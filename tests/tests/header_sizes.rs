@@ -22,9 +22,10 @@ const SOURCES: [&str; 4] = [
 ];
 
 /// Each constant in Rattle, in the header and in the Rust package.
-const CONSTANTS: [(&str, &str, usize); 15] = [
+const CONSTANTS: [(&str, &str, usize); 16] = [
     ("PICKS", "BOARD_PICKS", board::PICKS),
     ("ALPHABET", "BOARD_ALPHABET", board::ALPHABET),
+    ("MARKS", "BOARD_MARKS", board::MARKS),
     ("SECTIONS", "BOARD_SECTIONS", board::SECTIONS),
     ("VISITS", "BOARD_VISITS", board::VISITS),
     ("CENTRE_LANES", "BOARD_CENTRE_LANES", board::CENTRE_LANES),
@@ -41,7 +42,7 @@ const CONSTANTS: [(&str, &str, usize); 15] = [
 ];
 
 /// What follows from the sizes of the Rattle types, in C.
-const LAYOUT: [&str; 22] = [
+const LAYOUT: [&str; 25] = [
     "(size_t)BOARD_CALLS == CALLS",
     "BOARD_CENTRES == sizeof(ByCentre) / sizeof(uint16_t)",
     "BOARD_PLACES == sizeof(ByPlace) / sizeof(uint16_t)",
@@ -50,17 +51,20 @@ const LAYOUT: [&str; 22] = [
     "_Generic(&((struct board *)0)->letters, Letters *: 1, default: 0)",
     "_Generic(&((struct board *)0)->codes, Letters *: 1, default: 0)",
     "_Generic(&((struct board *)0)->lifts, Lifts *: 1, default: 0)",
+    "_Generic(&((struct board *)0)->marks, Marks *: 1, default: 0)",
     "_Generic(&((struct board *)0)->centres, Centres *: 1, default: 0)",
     "_Generic(&((struct board *)0)->places, Places *: 1, default: 0)",
     "_Generic(&((struct board *)0)->numbers, size_t (*)[3]: 1, default: 0)",
     "sizeof(((struct board *)0)->letters) == sizeof(Letters)",
     "sizeof(((struct board *)0)->codes) == sizeof(Letters)",
     "sizeof(((struct board *)0)->lifts) == sizeof(Lifts)",
+    "sizeof(((struct board *)0)->marks) == sizeof(Marks)",
     "sizeof(((struct board *)0)->centres) == sizeof(Centres)",
     "sizeof(((struct board *)0)->places) == sizeof(Places)",
     "offsetof(struct board, codes) == sizeof(Letters)",
     "offsetof(struct board, lifts) == 2 * sizeof(Letters)",
-    "offsetof(struct board, centres) == 2 * sizeof(Letters) + sizeof(Lifts)",
+    "offsetof(struct board, marks) == 2 * sizeof(Letters) + sizeof(Lifts)",
+    "offsetof(struct board, centres) == offsetof(struct board, marks) + sizeof(Marks)",
     "offsetof(struct board, places) == offsetof(struct board, centres) + sizeof(Centres)",
     "offsetof(struct board, numbers) == (offsetof(struct board, places) + sizeof(Places) + 7) / 8 * 8",
     "sizeof(struct board) == offsetof(struct board, numbers) + 3 * sizeof(size_t)",
@@ -77,6 +81,7 @@ fn of_rust() -> Vec<String> {
         ),
         (offset_of!(State, codes), "offsetof(struct board, codes)"),
         (offset_of!(State, lifts), "offsetof(struct board, lifts)"),
+        (offset_of!(State, marks), "offsetof(struct board, marks)"),
         (
             offset_of!(State, centres),
             "offsetof(struct board, centres)",
@@ -202,6 +207,8 @@ fn a_changed_type_is_refused() {
         ("[u8; PICKS]", "[u16; PICKS]", failed),
         ("[u8; ALPHABET]", "[u8; ALPHABET + 1]", failed),
         ("[u8; ALPHABET]", "[u16; ALPHABET]", failed),
+        ("[u16; ALPHABET]", "[u16; ALPHABET + 1]", failed),
+        ("[u16; ALPHABET]", "[u8; ALPHABET]", failed),
         ("[u16; PICKS + 1]", "[u16; PICKS + 2]", failed),
         ("[u16; PICKS + 1]", "[u8; PICKS + 1]", failed),
         ("[u16; 2 * PICKS + 2]", "[u16; 2 * PICKS + 1]", failed),

@@ -46,14 +46,14 @@ fn the_sentences_are_those_of_the_readme() {
     }
 }
 
-/// The sessions in the README, the worked examples and one with a mill's own lifts, are as
-/// the console prints them.
+/// The sessions in the README, the worked examples, one with a mill's own lifts and one with
+/// marks, are as the console prints them.
 #[test]
 fn the_sessions_are_as_the_console_prints_them() {
     let readme = file("README.md");
     let sessions: Vec<&str> = readme.split("    $ ./board\n").skip(1).collect();
-    assert_eq!(sessions.len(), 2, "sessions in README.md");
-    for (behind, fewest) in sessions.into_iter().zip([60, 20]) {
+    assert_eq!(sessions.len(), 3, "sessions in README.md");
+    for (behind, fewest) in sessions.into_iter().zip([60, 20, 30]) {
         let lines = behind.lines().map_while(|line| line.strip_prefix("    "));
         let session: Vec<&str> = lines.collect();
         assert!(session.len() > fewest, "only {} lines", session.len());
@@ -85,13 +85,15 @@ fn every_call_is_explained() {
 }
 
 /// Calls as docs/HOSTS.md writes them, and a line of each that is accepted behind those above.
-const ACCEPTED: [(&str, &str); 14] = [
+const ACCEPTED: [(&str, &str); 16] = [
     ("start K", "start 8"),
     (
         "load BYTE..",
         "load 1 1 1 1 1 1 1 1 1 1 1 1 1 1 1 1 1 1 1 1 1 1 1 1 1 1",
     ),
     ("feed PICK [ENTRIES]", "feed A"),
+    ("mark NAME", "mark M"),
+    ("back NAME", "back M"),
     ("mask I", "mask 1"),
     ("radius C", "radius 2"),
     ("longest", "longest"),

@@ -63,6 +63,33 @@ fn loads_keep_the_state() {
     assert!(state == State { lifts, ..before });
 }
 
+/// A refused mark or going back changes nothing; an accepted mark its own entry alone.
+#[test]
+fn marks_keep_the_state() {
+    let mut before = fed(b"ABA", 8);
+    for (name, number) in (b'A'..=b'Z').zip(0..) {
+        let mut state = before.clone();
+        assert_eq!(calls::back(&mut state, name), Err(17), "{name}");
+        let expected = if number < 4 { Ok(()) } else { Err(18) };
+        assert_eq!(calls::mark(&mut state, name), expected, "{name}");
+        if number < 4 {
+            before.marks[number] = 4;
+        }
+        assert!(state == before, "{name}");
+        before = state;
+    }
+    let odd = State {
+        most_sections: 0,
+        ..before.clone()
+    };
+    for (before, name, number) in [(odd, b'A', 7), (before, b'@', 2)] {
+        let mut state = before.clone();
+        assert_eq!(calls::mark(&mut state, name), Err(number));
+        assert_eq!(calls::back(&mut state, name), Err(number));
+        assert!(state == before, "number {number}");
+    }
+}
+
 #[test]
 fn accepted_feeds_keep_the_entries_past_the_visits() {
     for draft in every_draft_to(2, 9).filter(|draft| !draft.is_empty()) {

@@ -4,17 +4,22 @@
 mod some_calls;
 
 use comparison::calls::State;
-use comparison::listed::{found, listed};
+use comparison::listed::{found, listed, listed_by_marks};
 use comparison::plain::fixed_lifts;
 use comparison::samples::Generator;
 use comparison::scripted::{number_of, Call};
-use comparison::MOST_PICKS;
+use comparison::{LETTERS, MOST_PICKS};
 use some_calls::some_call;
 
-/// A stored state of picks A.
-fn stored(n: usize, most_sections: usize) -> State {
+/// A stored state of picks A, with marks of up to six letters.
+fn stored(generator: &mut Generator, n: usize, most_sections: usize) -> State {
+    let mut marks = [0; LETTERS];
+    for _ in 0..generator.below(7) {
+        marks[generator.below(6)] = 1 + generator.below(9) as u16;
+    }
     State {
         n,
+        marks,
         ..State::of(&[65; MOST_PICKS], most_sections, &fixed_lifts())
     }
 }
@@ -26,7 +31,8 @@ fn assert_listed(call: Call, state: &State) {
     let output = &mut vec![0; call.output_bytes()];
     let reply = call.make(&mut state.clone(), list, output);
     let case = format!("{call:?}, n {}, K {}", state.n, state.most_sections);
-    match listed(call, state.n, state.most_sections) {
+    let by_marks = || listed_by_marks(call, &state.marks).map(|number| (number, None));
+    match listed(call, state.n, state.most_sections).or_else(by_marks) {
         Some(refusal) => assert_eq!(reply, Err(refusal), "{case}"),
         None => {
             let by_finding = |number| found(call).contains(&number);
@@ -45,7 +51,8 @@ fn on_short_drafts_and_any_k() {
             _ => generator.below(9),
         };
         let call = some_call(generator, n);
-        assert_listed(call, &stored(n, generator.below(11)));
+        let most_sections = generator.below(11);
+        assert_listed(call, &stored(generator, n, most_sections));
     }
 }
 
@@ -54,6 +61,6 @@ fn on_a_full_draft() {
     let generator = &mut Generator(13);
     for _ in 0..2_000 {
         let call = some_call(generator, MOST_PICKS);
-        assert_listed(call, &stored(MOST_PICKS, 8));
+        assert_listed(call, &stored(generator, MOST_PICKS, 8));
     }
 }

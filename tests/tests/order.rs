@@ -116,6 +116,36 @@ fn load() {
     assert_eq!(calls::load(&mut fed(b"", 8), &good), Ok(()));
 }
 
+/// A state with marks of these names, made by the call.
+fn marked(mut state: State, names: &[u8]) -> State {
+    for &name in names {
+        assert_eq!(calls::mark(&mut state, name), Ok(()), "{name}");
+    }
+    state
+}
+
+/// Mark: 7, then 2, then 18. Back: 7, then 2, then 17.
+#[test]
+fn mark_and_back() {
+    let state = &mut marked(fed(b"AB", MOST_SECTIONS), b"WXYZ");
+    for name in [b'@', b'[', b'A', b'W'] {
+        assert_eq!(calls::mark(&mut State::zeros(), name), Err(7));
+        assert_eq!(calls::back(&mut State::zeros(), name), Err(7));
+        let stored = &mut state.clone();
+        stored.most_sections = 9;
+        assert_eq!(calls::mark(stored, name), Err(7));
+        assert_eq!(calls::back(stored, name), Err(7));
+    }
+    for name in [b'@', b'['] {
+        assert_eq!(calls::mark(state, name), Err(2));
+        assert_eq!(calls::back(state, name), Err(2));
+    }
+    assert_eq!(calls::mark(state, b'A'), Err(18));
+    assert_eq!(calls::back(state, b'A'), Err(17));
+    assert_eq!(calls::mark(state, b'W'), Ok(()));
+    assert_eq!(calls::back(state, b'W'), Ok(()));
+}
+
 /// Show: 4, then 6.
 #[test]
 fn show() {

@@ -5,20 +5,24 @@ mod fed;
 
 use comparison::calls::{self, NextEnding, State};
 use comparison::plain::fixed_lifts;
-use comparison::{MOST_PICKS, MOST_SECTIONS, VISIT_ROOM};
+use comparison::{LETTERS, MOST_PICKS, MOST_SECTIONS, VISIT_ROOM};
 use fed::fed;
 
-/// A state of n picks, all A, and K as stored, made by no call.
+/// A state of n picks, all A, and K as stored, with A marked before the first; made by no
+/// call.
 fn stored(n: usize, most_sections: usize) -> State {
+    let mut marks = [0; LETTERS];
+    marks[0] = 1;
     State {
         n,
+        marks,
         ..State::of(&[b'A'; MOST_PICKS], most_sections, &fixed_lifts())
     }
 }
 
 /// What each call that is given a state, other than start, refuses with, on inputs
 /// that no other line refuses; none when accepted.
-fn numbers_of_all_calls(state: &State) -> [Option<u8>; 9] {
+fn numbers_of_all_calls(state: &State) -> [Option<u8>; 11] {
     [
         calls::feed(&mut state.clone(), b'A', &mut [0; VISIT_ROOM]).err(),
         calls::mask_of_prefix(state, 1).err(),
@@ -28,6 +32,8 @@ fn numbers_of_all_calls(state: &State) -> [Option<u8>; 9] {
         calls::split(state, 1, 1, &mut [0; 1]).err(),
         calls::folded_record(state, 1, 1, &mut [0; 8]).err(),
         calls::lift(state, b'A').err(),
+        calls::mark(&mut state.clone(), b'A').err(),
+        calls::back(&mut state.clone(), b'A').err(),
         load_number(state, &[7; 26]),
     ]
 }
@@ -74,13 +80,15 @@ fn number_1_in_split_and_record() {
 }
 
 #[test]
-fn number_2_in_feed_and_lift() {
+fn number_2_in_feed_lift_mark_and_back() {
     for byte in 0..=255 {
         let mut state = fed(b"", MOST_SECTIONS);
         let fed_number = calls::feed(&mut state, byte, &mut [0; VISIT_ROOM]).err();
         let expected = (!(65..=90).contains(&byte)).then_some(2);
         assert_eq!(fed_number, expected, "byte {byte}");
         assert_eq!(calls::lift(&state, byte).err(), expected, "byte {byte}");
+        assert_eq!(calls::mark(&mut state, byte).err(), expected, "name {byte}");
+        assert_eq!(calls::back(&mut state, byte).err(), expected, "name {byte}");
     }
 }
 
@@ -242,14 +250,14 @@ fn number_7() {
     let odd = [(2_049, 8), ((1 << 16) + 3, 8), (3, 0), (3, 9), (3, 256 + 8)];
     for (n, most_sections) in odd {
         let numbers = numbers_of_all_calls(&stored(n, most_sections));
-        assert_eq!(numbers, [Some(7); 9], "n {n}, K {most_sections}");
+        assert_eq!(numbers, [Some(7); 11], "n {n}, K {most_sections}");
         let mut started = stored(n, most_sections);
         assert_eq!(calls::start(&mut started, 4), Ok(()));
         assert_eq!(started, fed(b"", 4), "n {n}, K {most_sections}");
     }
     for most_sections in [1, 8] {
-        let mut expected = [None; 9];
-        expected[8] = Some(16);
+        let mut expected = [None; 11];
+        expected[10] = Some(16);
         let numbers = numbers_of_all_calls(&stored(3, most_sections));
         assert_eq!(numbers, expected, "K {most_sections}");
         let mut full = expected;
@@ -303,6 +311,48 @@ fn number_16() {
     let mut again = fed(b"A", 8);
     assert_eq!(calls::start(&mut again, 8), Ok(()));
     assert_eq!(load_number(&again, &[1; 26]), None);
+}
+
+/// Each letter by itself: no mark before it is set, one afterwards, and none after a start.
+#[test]
+fn number_17() {
+    for name in b'A'..=b'Z' {
+        let mut state = fed(b"AB", 8);
+        assert_eq!(calls::back(&mut state, name), Err(17), "{name}");
+        assert_eq!(calls::mark(&mut state, name), Ok(()), "{name}");
+        for other in (b'A'..=b'Z').filter(|&other| other != name) {
+            assert_eq!(calls::back(&mut state, other), Err(17), "{other}");
+        }
+        assert_eq!(calls::back(&mut state, name), Ok(()), "{name}");
+        assert_eq!(calls::start(&mut state, 8), Ok(()));
+        assert_eq!(calls::back(&mut state, name), Err(17), "{name}");
+    }
+}
+
+/// Four names are taken and no fifth; each of the four can be set again; where one is
+/// dropped, another is taken.
+#[test]
+fn number_18() {
+    let mut state = fed(b"", 8);
+    for (at, name) in (b'W'..=b'Z').enumerate() {
+        assert_eq!(calls::mark(&mut state, name), Ok(()), "{name}");
+        assert!(calls::feed(&mut state, b'A', &mut [0; VISIT_ROOM]).is_ok());
+        assert_eq!(state.marks[22..][at], at as u16 + 1, "{name}");
+    }
+    for name in b'A'..=b'V' {
+        assert_eq!(calls::mark(&mut state, name), Err(18), "{name}");
+    }
+    for name in b'W'..=b'Z' {
+        assert_eq!(calls::mark(&mut state, name), Ok(()), "{name}");
+        assert_eq!(calls::mark(&mut state, b'A'), Err(18), "{name}");
+    }
+    assert_eq!(state.marks[22..], [5; 4]);
+    assert!(calls::feed(&mut state, b'B', &mut [0; VISIT_ROOM]).is_ok());
+    assert_eq!(calls::mark(&mut state, b'Z'), Ok(()));
+    assert_eq!(calls::back(&mut state, b'W'), Ok(()));
+    assert_eq!(calls::back(&mut state, b'Z'), Err(17));
+    assert_eq!(calls::mark(&mut state, b'A'), Ok(()));
+    assert_eq!(calls::mark(&mut state, b'Z'), Err(18));
 }
 
 #[test]

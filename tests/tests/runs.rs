@@ -1,6 +1,6 @@
 //! Runs of calls beside the plain book: every answer is the one read from the book's
-//! K, letters and lifts, and a start, a feed or a load is accepted exactly when the book
-//! takes it.
+//! K, letters, lifts and marks, and a start, a feed, a load, a mark or a going back is
+//! accepted exactly when the book takes it.
 
 #[path = "support/turns.rs"]
 mod turns;
@@ -21,6 +21,8 @@ enum Call {
     LongestCentre,
     Load(Vec<u8>),
     Lift(u8),
+    Mark(u8),
+    Back(u8),
 }
 
 /// A call with arguments inside and outside their bounds; starts are few, so that the
@@ -29,10 +31,12 @@ fn some_call(generator: &mut Generator, n: usize) -> Call {
     if n == 0 && generator.below(3) > 0 {
         return Call::Load(some_table(generator).bytes());
     }
-    match generator.below(23) {
+    match generator.below(30) {
         0 => Call::Start(generator.below(11)),
         20 => Call::Load(some_table(generator).bytes()),
         21..=22 => Call::Lift(some_pick(generator)),
+        23..=26 => Call::Mark(some_name(generator)),
+        27..=29 => Call::Back(some_name(generator)),
         1..=11 => Call::Feed(some_pick(generator), 17 + generator.below(6)),
         12..=16 => Call::Split(
             generator.below(12),
@@ -47,6 +51,12 @@ fn some_call(generator: &mut Generator, n: usize) -> Call {
 fn some_pick(generator: &mut Generator) -> u8 {
     let picks = b"AAAAABBBBBC@[";
     picks[generator.below(picks.len())]
+}
+
+/// One of six letters mostly, two more than there are marks.
+fn some_name(generator: &mut Generator) -> u8 {
+    let names = b"ABCDYZABCDYZ@[";
+    names[generator.below(names.len())]
 }
 
 /// The feed's answer and the front of the list, from the book after the feed.
@@ -98,6 +108,16 @@ fn load_by_book(book: &Book, table: &[u8]) -> Placed {
     }
 }
 
+/// The answer of a mark, or of a going back, that the book takes or not: 2, or the number
+/// that is its own.
+fn by_name(taken: bool, name: u8, number: u8) -> Answer<()> {
+    match (65..=90).contains(&name) {
+        _ if taken => Ok(()),
+        true => Err(number),
+        false => Err(2),
+    }
+}
+
 /// A list of so many entries, each holding 500 but for those of the front.
 fn list_with(front: &[u16], entries: usize) -> Vec<u16> {
     let mut list = vec![500; entries];
@@ -146,6 +166,14 @@ fn assert_call(state: &mut State, book: &mut Book, call: &Call) -> Option<usize>
             let expected = plain::lift(&book.lifts, letter).ok_or(2);
             assert_eq!(calls::lift(state, letter), expected, "{book:?} {letter}");
         }
+        Call::Mark(name) => {
+            let expected = by_name(book.mark(name), name, 18);
+            assert_eq!(calls::mark(state, name), expected, "{book:?} {name}");
+        }
+        Call::Back(name) => {
+            let expected = by_name(book.back(name), name, 17);
+            assert_eq!(calls::back(state, name), expected, "{book:?} {name}");
+        }
     }
     None
 }
@@ -158,29 +186,38 @@ fn first_state(generator: &mut Generator) -> State {
         letters: [generator.below(256) as u8; MOST_PICKS],
         codes: [generator.below(256) as u8; MOST_PICKS],
         lifts: [generator.below(256) as u8; LETTERS],
+        marks: [generator.below(5_000) as u16; LETTERS],
     }
 }
 
 /// Splits in which every section turns, and such as have sections of one pick, must be
-/// among the calls.
+/// among the calls, and goings back that cut the row and drop no mark, one and two.
 #[test]
 fn every_answer_of_a_run_is_the_books() {
     let mut generator = Generator(3);
     let mut of_one_pick = Vec::new();
-    for _ in 0..400 {
+    let mut shortened = [0; 5];
+    for _ in 0..2_000 {
         let mut state = first_state(&mut generator);
         let mut book = Book::default();
         let most_sections = 1 + generator.below(8);
         assert_call(&mut state, &mut book, &Call::Start(most_sections));
         for _ in 0..24 {
             let call = some_call(&mut generator, book.row.len());
+            let (picks, marks) = (book.row.len(), book.marks.len());
             of_one_pick.extend(assert_call(&mut state, &mut book, &call));
             assert_eq!(state.most_sections, book.most_sections, "{call:?}");
             assert_eq!(state.letters[..state.n], book.row, "{call:?}");
             assert_eq!(state.codes[..state.n], book.word(), "{call:?}");
             assert_eq!(state.lifts, book.lifts, "{call:?}");
+            assert_eq!(state.marks, book.stored_marks(), "{call:?}");
+            if matches!(call, Call::Back(_)) && book.row.len() < picks {
+                shortened[marks - book.marks.len()] += 1;
+            }
         }
     }
+    let often = shortened[..3].iter().all(|&count| count > 2);
+    assert!(often, "{shortened:?}");
     for count in 0..4 {
         assert!(of_one_pick.contains(&count), "{count} sections of one pick");
     }
@@ -281,6 +318,30 @@ fn which_lifts_the_book_takes() {
     assert_eq!((book.lifts, book.word()), ([7; 26], vec![7]));
     assert!(book.start(1) && book.lifts == fixed);
     assert!(book.load(&[255; 26]) && book.load(&[1; 26]) && book.lifts == [1; 26]);
+}
+
+/// The book takes four names and no fifth, A to Z and no other byte; a name again is moved. It
+/// goes back to a name that it has and to no other, and keeps marks of the same length.
+#[test]
+fn which_marks_the_book_takes() {
+    let mut book = Book::default();
+    assert!(book.start(8));
+    assert!(!book.mark(64) && !book.mark(91) && !book.back(64) && !book.back(b'Z'));
+    assert!(book.mark(b'A') && book.feed(b'M', 19) && book.mark(b'Z'));
+    assert!(book.feed(b'N', 19) && book.mark(b'K') && book.mark(b'L'));
+    assert!(!book.mark(b'B') && !book.back(b'B'));
+    let mut stored = [0; 26];
+    (stored[0], stored[25], stored[10], stored[11]) = (1, 2, 3, 3);
+    assert_eq!(book.stored_marks(), stored);
+    assert!(book.back(b'L') && book.row == b"MN" && book.stored_marks() == stored);
+    assert!(book.feed(b'O', 19) && book.mark(b'K'));
+    assert!(book.back(b'L') && book.row == b"MN" && !book.back(b'K'));
+    assert!(book.mark(b'B') && book.back(b'Z') && book.row == b"M");
+    assert!(!book.back(b'L') && !book.back(b'B'));
+    assert!(book.back(b'A') && book.row == b"" && !book.back(b'Z'));
+    assert!(book.load(&[7; 26]) && book.back(b'A') && book.lifts == [7; 26]);
+    assert!(!book.start(0) && book.back(b'A'));
+    assert!(book.start(8) && !book.back(b'A') && book.marks.is_empty());
 }
 
 /// "No accepted feed makes that number smaller": the centre of the longest ending.

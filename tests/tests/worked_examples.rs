@@ -1,10 +1,12 @@
 //! Every worked example of document 01, but for the draft program's, and the turn counts
-//! of document 02.
+//! and the marks of document 02.
 
 #[path = "support/both.rs"]
 mod both;
 #[path = "support/fed.rs"]
 mod fed;
+#[path = "support/mark_examples.rs"]
+mod mark_examples;
 #[path = "support/turn_counts.rs"]
 mod turn_counts;
 
@@ -14,6 +16,7 @@ use comparison::fast::Fast;
 use comparison::samples::{every_draft_to, repeated};
 use comparison::{plain, FIRST_PICK, LAST_PICK, MOST_PICKS, MOST_SECTIONS, VISIT_ROOM};
 use fed::fed;
+use mark_examples::sessions;
 use turn_counts::TURN_COUNTS;
 
 /// The mask and the visits of the whole draft, on both paths and from its last feed.
@@ -199,6 +202,20 @@ fn turn_counts() {
     for (draft, k, ends, turns) in TURN_COUNTS {
         let ends: Vec<usize> = ends.iter().map(|&end| usize::from(end)).collect();
         assert_split(draft, usize::from(k), &ends, turns);
+    }
+}
+
+#[test]
+fn marks_and_goings_back() {
+    for session in sessions() {
+        let mut state = State::zeros();
+        for (at, (call, reply, filled)) in session.into_iter().enumerate() {
+            let mut list = vec![0; call.entries()];
+            let output = &mut vec![0; call.output_bytes()];
+            let given = call.make(&mut state, &mut list, output);
+            assert_eq!(given, reply, "call {at}, {call:?}");
+            assert_eq!(&list[..filled.len()], filled, "call {at}, {call:?}");
+        }
     }
 }
 

@@ -4,8 +4,8 @@ ghost use Prim.Native.Nat.{_+_, _<_};
 ghost use Rattle.words.specs.Definitions.{mostPicks};
 ghost use Rattle.cells.specs.Lanes.{byCentre, byPlace};
 ghost use Rattle.promises.specs.State.{draftIn};
-ghost use Rattle.promises.specs.Promises.{FeedPromise, maskByte};
-ghost use Rattle.promises.specs.Lent.{fedAs};
+ghost use Rattle.promises.specs.Promises.{maskByte};
+ghost use Rattle.promises.specs.Lent.{FeedsOn};
 use crate::lift::lift_in;
 use crate::mask::mask_byte;
 use cells::Centres;
@@ -54,11 +54,10 @@ pub fn feed(
     held: Numbers,
     pick: u8,
 ) -> Step
-    ensures { λ r. ⌜ FeedPromise
-        (draftIn held (now (letters .entry)) (now (codes .entry)) (now (lifts .entry)) (byCentre (now (centres .entry))) (byPlace (now (places .entry))))
-        pick (now (visits .entry))
-        (fedAs (r .answer)
-        (draftIn (r .numbers) (now (letters .exit)) (now (codes .exit)) (now (lifts .entry)) (byCentre (now (centres .exit))) (byPlace (now (places .exit)))))
+    ensures { λ r. ⌜ FeedsOn
+        (λ marks. draftIn held (now (letters .entry)) (now (codes .entry)) (now (lifts .entry)) marks (byCentre (now (centres .entry))) (byPlace (now (places .entry))))
+        pick (now (visits .entry)) (r .answer)
+        (λ marks. draftIn (r .numbers) (now (letters .exit)) (now (codes .exit)) (now (lifts .entry)) marks (byCentre (now (centres .exit))) (byPlace (now (places .exit))))
         (now (visits .exit)) ⌝ }
 {
     let number = feed_refusal(held, pick, visits.len());

@@ -3,15 +3,19 @@ ghost use mathlib.Core.Path.{_≡_};
 ghost use lib.ListN.{replicate};
 ghost use Rattle.words.specs.Definitions.{mostPicks};
 ghost use Rattle.cells.specs.Lanes.{byCentre, byPlace};
+ghost use Rattle.promises.specs.Lifts.{fixedLifts};
+ghost use Rattle.promises.specs.Marks.{entries, noMarks};
 ghost use Rattle.promises.specs.State.{draftIn, centresOf, placesOf, fresh};
 ghost use Rattle.promises.specs.Promises.{StartPromise};
 ghost use Rattle.promises.specs.Lent.{startedAs};
+use cells::ALPHABET;
 use cells::CENTRE_LANES;
 use cells::Centre;
 use cells::Centres;
 use cells::GATHERED;
 use cells::Letters;
 use cells::Lifts;
+use cells::Marks;
 use cells::Numbers;
 use cells::PICKS;
 use cells::PLACE_LANES;
@@ -59,13 +63,11 @@ const LIFTS: Lifts = [
 ];
 
 // The arrays of no letter: all is 0 but the row word of prefix 0, which has bit 0 alone, and its gathered word.
-fn clear(letters: &mut Letters, codes: &mut Letters, centres: &mut Centres, places: &mut Places)
-    ensures { λ r. ⌜ now (letters .exit) ≡ replicate mostPicks 0 ⌝ }
-    ensures coded { λ r. ⌜ now (codes .exit) ≡ replicate mostPicks 0 ⌝ }
+pub fn clear(codes: &mut Letters, centres: &mut Centres, places: &mut Places)
+    ensures { λ r. ⌜ now (codes .exit) ≡ replicate mostPicks 0 ⌝ }
     ensures centred { λ r. ⌜ byCentre (now (centres .exit)) ≡ centresOf (fresh 0) ⌝ }
     ensures placed { λ r. ⌜ byPlace (now (places .exit)) ≡ placesOf (fresh 0) ⌝ }
 {
-    *letters = [0u8; PICKS];
     *codes = [0u8; PICKS];
     *centres = [[0u16; 2 * PICKS + 2]; CENTRE_LANES];
     *places = [[0u16; PICKS + 1]; PLACE_LANES];
@@ -73,20 +75,32 @@ fn clear(letters: &mut Letters, codes: &mut Letters, centres: &mut Centres, plac
     store_at_place(places, GATHERED, Place(0), 1);
 }
 
+// No letter, the fixed table, no mark.
+fn clear_tables(letters: &mut Letters, lifts: &mut Lifts, marks: &mut Marks)
+    ensures { λ r. ⌜ now (letters .exit) ≡ replicate mostPicks 0 ⌝ }
+    ensures lifted { λ r. ⌜ now (lifts .exit) ≡ fixedLifts ⌝ }
+    ensures marked { λ r. ⌜ now (marks .exit) ≡ entries noMarks ⌝ }
+{
+    *letters = [0u8; PICKS];
+    *lifts = LIFTS;
+    *marks = [0u16; ALPHABET];
+}
+
 // A start on whatever is stored: `held` are the numbers stored.
 pub fn start(
     letters: &mut Letters,
     codes: &mut Letters,
     lifts: &mut Lifts,
+    marks: &mut Marks,
     centres: &mut Centres,
     places: &mut Places,
     held: Numbers,
     k: u8,
 ) -> Begin
     ensures { λ r. ⌜ StartPromise
-        (draftIn held (now (letters .entry)) (now (codes .entry)) (now (lifts .entry)) (byCentre (now (centres .entry))) (byPlace (now (places .entry)))) k
+        (draftIn held (now (letters .entry)) (now (codes .entry)) (now (lifts .entry)) (now (marks .entry)) (byCentre (now (centres .entry))) (byPlace (now (places .entry)))) k
         (startedAs (r .answer)
-        (draftIn (r .numbers) (now (letters .exit)) (now (codes .exit)) (now (lifts .exit)) (byCentre (now (centres .exit))) (byPlace (now (places .exit))))) ⌝ }
+        (draftIn (r .numbers) (now (letters .exit)) (now (codes .exit)) (now (lifts .exit)) (now (marks .exit)) (byCentre (now (centres .exit))) (byPlace (now (places .exit))))) ⌝ }
 {
     let number = start_refusal(k);
     if 0 < number {
@@ -95,8 +109,8 @@ pub fn start(
             numbers: held,
         };
     }
-    clear(letters, codes, centres, places);
-    *lifts = LIFTS;
+    clear_tables(letters, lifts, marks);
+    clear(codes, centres, places);
     Begin {
         answer: StartAnswer::Begun,
         numbers: Numbers {

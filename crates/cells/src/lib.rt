@@ -38,6 +38,12 @@ pub const ALPHABET: usize = 26;
 
 pub type Lifts = [u8; ALPHABET];
 
+// A mark for each letter: 0 where it is none, else the length that it marks and one more.
+pub type Marks = [u16; ALPHABET];
+
+// The most marks of a draft (document 02, "up to four marks").
+pub const MARKS: usize = 4;
+
 // The stored arrays by centre, and those by place, are the lanes of one array each: radii, lend lists, the list of the
 // endings' centres forward and backward; heads of the lend lists, row words, gathered words.
 pub const CENTRE_LANES: usize = 4;
@@ -232,6 +238,13 @@ pub fn put_place_entry(places: &mut Places, lane: usize, i: Place, v: u16)
 }
 
 // Letters
+
+// The place of a letter in the alphabet, from 0; 0 of a byte below A.
+pub fn letter_index(letter: u8) -> usize
+    ensures { λ r. ⌜ r ≡ letter - 65 ⌝ }
+{
+    minus(letter as usize, FIRST_LETTER as usize)
+}
 
 // The letter of the pick after place i.
 pub fn letter_after(a: &Letters, i: Place) -> u8

@@ -21,7 +21,7 @@ use Rattle.promises.specs.declared.Started.{Started}
 use Rattle.promises.specs.declared.FeedAnswer.{FeedAnswer}
 use Rattle.promises.specs.Answers.{Said, gave, refused, refusedAt, feedSays}
 use Rattle.promises.specs.Refusals.{startRefusal, feedRefusal}
-use Rattle.promises.specs.Book.{Book, book, feed, lent, write, fedRow, fedLifted}
+use Rattle.promises.specs.Book.{Book, fedBook, feed, lent, write, fedLifted}
 use Rattle.promises.specs.Replies.{refusalOf, foundFor, replyTo}
 use Rattle.promises.specs.BookLaws.{Case, taken, left, unless-zero, unless-not}
 use Rattle.words.specs.Ranges.{between, between-true}
@@ -68,6 +68,10 @@ pub record Fills (d : Draft) (pick : ℕ) (over : Bool) (e : Draft) (line : List
   -- on any state: one pick more, where the run goes on
   pub more : over ≡ false → e .n ≡ d .n + 1
 
+-- whatever the marks: the program has none, and a feed is not lent them
+abbrev pub FillsOn : (before : (marks : List ℕ) → Draft) (pick : ℕ) (over : Bool) (after : (marks : List ℕ) → Draft) (line : List ℕ) → Type 0
+FillsOn before pick over after line = (marks : List ℕ) → Fills (before marks) pick over (after marks) line
+
 -- how an answer to feed meets it
 
 module _ {d e : Draft} {pick : ℕ} {before after : List ℕ} {answer : FeedAnswer} (p : FeedPromise d pick before (fedAs answer e) after) where
@@ -109,9 +113,9 @@ module _ {d e : Draft} {pick : ℕ} {before after : List ℕ} {answer : FeedAnsw
     gives z = ap (λ r. isRefused (r .said)) (unless-zero _ visitList _ z)
 
     -- the length of the longest ending from its centre
-    longest-length : (K : ℕ) → Holds e (book K (b .lifts) (fedRow b pick))
+    longest-length : Holds e (fedBook b pick)
         → endingLength (e .n) (e .longest .0) ≡ longest (word (fedLifted b pick)) (length (fedLifted b pick))
-    longest-length K g =
+    longest-length g =
         let w : ℕ → ℕ = word (fedLifted b pick) in
         let n : ℕ = length (fedLifted b pick) in
         omega (arith, held-picks g, longest-centre w n, longest-is w n .below, longest-centre-at (g .arrays .iterates .stretches .radii .longest))
@@ -123,8 +127,8 @@ module _ {d e : Draft} {pick : ℕ} {before after : List ℕ} {answer : FeedAnsw
         go : Case (goesOn b pick) (feedRefusal (length (b .row)) (b .K) pick (length visitList))
             → lineOf (d .n) (e .n) (endingLength (e .n) (e .longest .0)) (feedSays answer) ≡ lineFor b pick
         go (taken t z) =
-            let g : Holds e (book (b .K) (b .lifts) (fedRow b pick)) = rw t at held in
-            rw (said, h .picks, longest-length (b .K) g, g .picks)
+            let g : Holds e (fedBook b pick) = rw t at held in
+            rw (said, h .picks, longest-length g, g .picks)
         go (left t z) = rw (said, refuses _ refl z, h .picks)
 
     goes-right : isRefused (feedSays answer) ≡ not (goesOn b pick)

@@ -10,8 +10,7 @@ use Rattle.words.specs.Computed.{longest}
 use Rattle.words.specs.Ranges.{between}
 use Rattle.text.specs.Definitions.{lineEnd, digitZero}
 use Rattle.promises.specs.Answers.{Said, gave, refused, refusedAt}
-use Rattle.promises.specs.Lifts.{fixedLifts}
-use Rattle.promises.specs.Book.{Book, book, feed, feedTaken, write, fedRow, fedLifted}
+use Rattle.promises.specs.Book.{Book, startedBook, feed, feedTaken, write, fedRow, fedLifted}
 use Rattle.promises.specs.Replies.{replyTo}
 use Rattle.draft.specs.Lines.{headerLine, pickLine, refusalLine}
 
@@ -56,4 +55,4 @@ goodFirstLine input = between (digitZero + 1) (digitZero + mostSections) (getD i
 unfoldable pub output : (input : List ℕ) → List ℕ
 unfolding headerLine picksOutput refusalLine
 output input =
-    headerLine ++ cond (goodFirstLine input) (picksOutput (book (getD input 0 0 - digitZero) fixedLifts []) (drop firstLine input)) (refusalLine 1 0)
+    headerLine ++ cond (goodFirstLine input) (picksOutput (startedBook (getD input 0 0 - digitZero)) (drop firstLine input)) (refusalLine 1 0)

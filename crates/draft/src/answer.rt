@@ -6,7 +6,7 @@ ghost use Rattle.io.specs.Counts.{Counts};
 ghost use Rattle.words.specs.Definitions.{mostPicks};
 ghost use Rattle.cells.specs.Lanes.{byCentre, byPlace};
 ghost use Rattle.promises.specs.State.{draftIn};
-ghost use Rattle.draft.specs.Filling.{endingLength, Tells, Fills};
+ghost use Rattle.draft.specs.Filling.{endingLength, Tells, FillsOn};
 ghost use Rattle.draft.specs.Putting.{room};
 use crate::line::pick_line;
 use crate::line::refusal_line;
@@ -81,9 +81,9 @@ pub fn answer(
 ) -> Answered
     requires { ⌜ (held .n ≤ mostPicks) × (room ≤ length (now line)) ⌝ }
     ensures { λ r. ⌜ Counts (r .bytes) (now (line .exit)) ⌝ }
-    ensures { λ r. ⌜ Fills
-        (draftIn held (now (letters .entry)) (now (codes .entry)) (now (lifts .entry)) (byCentre (now (centres .entry))) (byPlace (now (places .entry)))) pick (r .over)
-        (draftIn (r .numbers) (now (letters .exit)) (now (codes .exit)) (now (lifts .entry)) (byCentre (now (centres .exit))) (byPlace (now (places .exit))))
+    ensures { λ r. ⌜ FillsOn
+        (λ marks. draftIn held (now (letters .entry)) (now (codes .entry)) (now (lifts .entry)) marks (byCentre (now (centres .entry))) (byPlace (now (places .entry)))) pick (r .over)
+        (λ marks. draftIn (r .numbers) (now (letters .exit)) (now (codes .exit)) (now (lifts .entry)) marks (byCentre (now (centres .exit))) (byPlace (now (places .exit))))
         (take (r .bytes) (now (line .exit))) ⌝ }
 {
     let mut visits = [0u16; VISITS];

@@ -77,6 +77,7 @@ pub fn run(k: u8) {
     let mut letters = [0u8; PICKS];
     let mut codes = [0u8; PICKS];
     let mut lifts = [0u8; ALPHABET];
+    let mut marks = [0u16; ALPHABET];
     let mut centres = [[0u16; 2 * PICKS + 2]; CENTRE_LANES];
     let mut places = [[0u16; PICKS + 1]; PLACE_LANES];
     let stored = Numbers {
@@ -88,6 +89,7 @@ pub fn run(k: u8) {
         &mut letters,
         &mut codes,
         &mut lifts,
+        &mut marks,
         &mut centres,
         &mut places,
         stored,

@@ -10,7 +10,7 @@ use Rattle.promises.specs.Answers.{Reply, filled}
 use Rattle.promises.specs.Book.{Call, start, blank, bookOf}
 use Rattle.promises.specs.State.{stateOfBook}
 use Rattle.promises.specs.Replies.{replies}
-use Rattle.promises.specs.Runs.{Made, started, fed, loaded, asked, callOf, calls, replyOf}
+use Rattle.promises.specs.Runs.{Made, started, fed, loaded, marked, returned, asked, callOf, calls, replyOf}
 use Rattle.promises.specs.Demands.{Opened}
 use Rattle.promises.proofs.Demand1.{demand1-run}
 use Rattle.promises.proofs.Demand2.{demand2}
@@ -34,6 +34,8 @@ starts K rest [] e = clash cc
 starts K rest (started J r ∷ ms) e = record { r = r; others = ms; is = ap (λ z. started z r ∷ ms) (cc e) }
 starts K rest (fed pick before r after ∷ ms) e = clash cc
 starts K rest (loaded lifts r ∷ ms) e = clash cc
+starts K rest (marked name r ∷ ms) e = clash cc
+starts K rest (returned name r ∷ ms) e = clash cc
 starts K rest (asked q r ∷ ms) e = clash cc
 
 -- what the calls left, from the calls and their replies

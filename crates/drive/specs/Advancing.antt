@@ -20,7 +20,7 @@ use Rattle.drive.specs.Drives.{heldIn, answerSize, answersOf, entriesOf,
 use Rattle.drive.specs.Told.{numbersOf}
 use Rattle.drive.specs.Parts.{LendsAt, lends-at, lends-sets}
 use Rattle.drive.specs.Requests.{requested, called, Requests, requests-called, requests-sizes, has-room}
-use Rattle.drive.specs.Calling.{Takes, Stays, Tries, stays, takes}
+use Rattle.drive.specs.Calling.{Takes, Stays, Tries, stays, takes, TriesFor}
 use Rattle.drive.specs.declared.request.Request.{Request}
 use Rattle.drive.specs.declared.lending.Sizes.{Sizes}
 use Rattle.drive.specs.declared.make.Tried.{Tried}
@@ -75,8 +75,8 @@ pub data Advances (d : Draft) (z : Sizes) (s : Buffers) (answers : List ℕ) (at
   goes : {c : Call} → Goes d c z s answers at r e lists' bytes' answers' → Advances d z s answers at r e lists' bytes' answers' (some c)
 
 -- by the call that comes next at the cursor
-abbrev pub AdvancesAt : (d : Draft) (script : List ℕ) (s : Buffers) (answers : List ℕ) (at r : Cursor) (e : Draft) (lists' bytes' answers' : List ℕ) → Type 0
-AdvancesAt d script s answers at r e lists' bytes' answers' =
+abbrev pub AdvancesAt : (script : List ℕ) (s : Buffers) (answers : List ℕ) (at r : Cursor) (d e : Draft) (lists' bytes' answers' : List ℕ) → Type 0
+AdvancesAt script s answers at r d e lists' bytes' answers' =
     Advances d (nextSizes (scriptAt script at)) s answers at r e lists' bytes' answers' (calledAt script s answers at)
 
 -- What is stored after a request
@@ -109,13 +109,13 @@ pub record Settles (numbers answers : List ℕ) (at : Cursor) (t : Tried) (r : C
   pub keeps : t .made ≡ false → Keeps numbers answers at r numbers' answers'
 
 -- the call was made on the state of these numbers, and ls, bs and is are what was left to lend
-pub tries-left : (numbers : List ℕ) {held : Numbers} (letters codes lifts : List ℕ) (v : ByCentre) (w : ByPlace) (s : Buffers) (at : Cursor) {ls bs is : List ℕ}
+pub tries-left : (numbers : List ℕ) {held : Numbers} (letters codes lifts marks : List ℕ) (v : ByCentre) (w : ByPlace) (s : Buffers) (at : Cursor) {ls bs is : List ℕ}
     (q : Request) {t : Tried} {e : Draft} {part piece : List ℕ}
     → held ≡ heldIn numbers → ls ≡ drop (at .listed) (s .lists) → bs ≡ drop (at .written) (s .bytes) → is ≡ drop (at .read) (s .input)
-    → Tries (draftIn held letters codes lifts v w) (sizesFor (q .op) (q .m)) (buffers ls bs is) t e part piece (requested q (buffers ls bs is))
-    → Tries (draftIn (heldIn numbers) letters codes lifts v w) (sizesFor (q .op) (q .m)) (leftAt s at) t e part piece (requested q (leftAt s at))
-tries-left numbers letters codes lifts v w s at q {t} {e} {part} {piece} h x y z f =
-    subst (λ n. Tries (draftIn n letters codes lifts v w) (sizesFor (q .op) (q .m)) (leftAt s at) t e part piece (requested q (leftAt s at))) h (rw (← x, ← y, ← z) f)
+    → TriesFor q (buffers ls bs is) t (draftIn held letters codes lifts marks v w) e part piece
+    → TriesFor q (leftAt s at) t (draftIn (heldIn numbers) letters codes lifts marks v w) e part piece
+tries-left numbers letters codes lifts marks v w s at q {t} {e} {part} {piece} h x y z f =
+    subst (λ n. TriesFor q (leftAt s at) t (draftIn n letters codes lifts marks v w) e part piece) h (rw (← x, ← y, ← z) f)
 
 -- where a call was made, there is room for what is stored
 pub room-for : {o : Option Call} (script : List ℕ) (s : Buffers) (answers : List ℕ) (at : Cursor) {d e : Draft} {z : Sizes} {t : Tried} {part piece : List ℕ}
@@ -176,7 +176,7 @@ module _ {numbers numbers' answers answers' : List ℕ} {s : Buffers} {at r : Cu
 pub advances-at : (script : List ℕ) (s : Buffers) (answers : List ℕ) (at : Cursor) {q : Request} {d e : Draft} {r : Cursor} {lists' bytes' answers' : List ℕ}
     → Requests (scriptAt script at) (length answers - answerSize * at .made) q
     → Advances d (sizesFor (q .op) (q .m)) s answers at r e lists' bytes' answers' (requested q (leftAt s at))
-    → AdvancesAt d script s answers at r e lists' bytes' answers'
+    → AdvancesAt script s answers at r d e lists' bytes' answers'
 advances-at script s answers at {q} {d} {e} {r} {lists'} {bytes'} {answers'} h f = rw (← (requests-called h (leftAt s at))) (go (requested q (leftAt s at)) refl f)
   where
     go : (o : Option Call) → requested q (leftAt s at) ≡ o → Advances d (sizesFor (q .op) (q .m)) s answers at r e lists' bytes' answers' o

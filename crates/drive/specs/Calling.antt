@@ -12,11 +12,12 @@ use Rattle.promises.specs.declared.Draft.{Draft}
 use Rattle.promises.specs.declared.StartAnswer.{StartAnswer}
 use Rattle.promises.specs.declared.FeedAnswer.{FeedAnswer}
 use Rattle.promises.specs.declared.LoadAnswer.{LoadAnswer}
-use Rattle.promises.specs.Answers.{Reply, startSays, feedSays, loadSays}
-use Rattle.promises.specs.Book.{Query, Call, start, feed, load, ask}
-use Rattle.promises.specs.Promises.{StartPromise, FeedPromise, LoadPromise, Reads}
-use Rattle.promises.specs.Lent.{startedAs, fedAs, loadedAs}
-use Rattle.promises.specs.Runs.{Made, started, fed, loaded, asked, callOf, replyOf, Meets, leaves}
+use Rattle.promises.specs.declared.MarkAnswer.{MarkAnswer}
+use Rattle.promises.specs.Answers.{Reply, startSays, feedSays, loadSays, markSays}
+use Rattle.promises.specs.Book.{Query, Call, start, feed, load, mark, back, ask}
+use Rattle.promises.specs.Promises.{StartPromise, FeedPromise, LoadPromise, MarkPromise, BackPromise, Reads}
+use Rattle.promises.specs.Lent.{startedAs, fedAs, loadedAs, markedAs}
+use Rattle.promises.specs.Runs.{Made, started, fed, loaded, marked, returned, asked, callOf, replyOf, Meets, leaves}
 use Rattle.drive.specs.Script.{Buffers, buffers, callOn, sourceOf, ofLists, ofBytes, listFrom, sizesFor, callCount, fits, fitsIn, parts, callFor}
 use Rattle.drive.specs.declared.lending.Sizes.{Sizes}
 use Rattle.drive.specs.Drives.{encoded, answersOf, entriesOf, bytesOf}
@@ -47,10 +48,10 @@ pub record Lent (q : Request) (list output : List ℕ) : Type 0 where
 abbrev pub Answers : Draft → Request → (part : Buffers) → Told → Draft → (list' output' : List ℕ) → Type 0
 Answers d q part told e list' output' = Makes d (callOn (q .op) (q .b) (q .x) part) told e list' output'
 
--- that of a query, which is lent neither codes nor input: whatever they are
-abbrev pub Queried : (state : (codes : List ℕ) → Draft) → Request → (list output : List ℕ) → Told → (list' output' : List ℕ) → Type 0
+-- that of a query, which is lent neither codes nor marks nor input: whatever they are
+abbrev pub Queried : (state : (codes marks : List ℕ) → Draft) → Request → (list output : List ℕ) → Told → (list' output' : List ℕ) → Type 0
 Queried state q list output told list' output' =
-    (codes input : List ℕ) → Answers (state codes) q (buffers list output input) told (state codes) list' output'
+    (codes marks input : List ℕ) → Answers (state codes marks) q (buffers list output input) told (state codes marks) list' output'
 
 -- Each kind of call
 
@@ -77,6 +78,18 @@ pub load-makes : {d e : Draft} {lifts : List ℕ} {answer : LoadAnswer} {told : 
 unfolding Meets callOf leaves replyOf sourceOf
 load-makes {d} {e} {lifts} {answer} p s l o =
     record { made = loaded lifts (loadedAs answer e); meets = p; call = refl; left = refl; says = s; entries = l; bytes = o }
+
+pub mark-makes : {d e : Draft} {name : ℕ} {answer : MarkAnswer} {told : Told} {list output : List ℕ} → MarkPromise d name (markedAs answer e)
+    → numbersOf told ≡ encoded (markSays answer) → list ≡ [] → output ≡ [] → Makes d (mark name) told e list output
+unfolding Meets callOf leaves replyOf sourceOf
+mark-makes {d} {e} {name} {answer} p s l o =
+    record { made = marked name (markedAs answer e); meets = p; call = refl; left = refl; says = s; entries = l; bytes = o }
+
+pub back-makes : {d e : Draft} {name : ℕ} {answer : MarkAnswer} {told : Told} {list output : List ℕ} → BackPromise d name (markedAs answer e)
+    → numbersOf told ≡ encoded (markSays answer) → list ≡ [] → output ≡ [] → Makes d (back name) told e list output
+unfolding Meets callOf leaves replyOf sourceOf
+back-makes {d} {e} {name} {answer} p s l o =
+    record { made = returned name (markedAs answer e); meets = p; call = refl; left = refl; says = s; entries = l; bytes = o }
 
 -- What fits
 
@@ -125,6 +138,10 @@ pub data Tries (d : Draft) (z : Sizes) (left : Buffers) (t : Tried) (e : Draft) 
   stays : Stays d left t e lists' bytes' → Tries d z left t e lists' bytes' none
   takes : {c : Call} → Takes d c z left t e lists' bytes' → Tries d z left t e lists' bytes' (some c)
 
+-- by a request: d and e are the states before and after it
+abbrev pub TriesFor : (q : Request) (left : Buffers) (t : Tried) (d e : Draft) (lists' bytes' : List ℕ) → Type 0
+TriesFor q left t d e lists' bytes' = Tries d (sizesFor (q .op) (q .m)) left t e lists' bytes' (requested q left)
+
 -- as the code has it
 abbrev pub triedAs : Told → Numbers → Sizes → Tried
 triedAs told numbers z =
@@ -140,7 +157,7 @@ unfolding callFor
 called-on q left z e = ap (λ y. cond (fitsIn (q .op) y left) (some (callOn (q .op) (q .b) (q .x) (parts y left))) none) (sym e)
 
 pub tries-none : {d : Draft} {held : Numbers} (q : Request) (left : Buffers) (z : Sizes) → z ≡ sizesFor (q .op) (q .m) → fitsIn (q .op) z left ≡ false
-    → Tries d (sizesFor (q .op) (q .m)) left (noneTried held) d (left .lists) (left .bytes) (requested q left)
+    → TriesFor q left (noneTried held) d d (left .lists) (left .bytes)
 tries-none q left z is f = rw (called-on q left z is, f) (stays (record { ends = refl; state = refl; entries = refl; output = refl }))
 
 pub tries-one : {d e : Draft} (q : Request) (left : Buffers) (told : Told) (numbers : Numbers) {list output : List ℕ} (z : Sizes)

@@ -15,9 +15,9 @@ use Rattle.drive.specs.Script.{Buffers, ofLists, ofBytes, listFrom, aske
 abbrev pub heldIn : (numbers : List ℕ) → Numbers
 heldIn numbers = record { n = getD numbers 0 0; k = getD numbers 1 0; longest = record { 0 = getD numbers 2 0 } }
 
--- The state that the numbers, the letters, the codes, the lifts and the lanes are
-abbrev pub stateOf : (numbers letters codes lifts : List ℕ) (centres places : List (List ℕ)) → Draft
-stateOf numbers letters codes lifts centres places = draftIn (heldIn numbers) letters codes lifts (byCentre centres) (byPlace places)
+-- The state that the numbers, the letters, the codes, the lifts, the marks and the lanes are
+abbrev pub stateOf : (numbers letters codes lifts marks : List ℕ) (centres places : List (List ℕ)) → Draft
+stateOf numbers letters codes lifts marks centres places = draftIn (heldIn numbers) letters codes lifts marks (byCentre centres) (byPlace places)
 
 -- An answer in four numbers: 0 and the values given, 1 and the number under which it refuses, or 2, that number and its place; 0 where
 -- there is none

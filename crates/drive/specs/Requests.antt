@@ -3,7 +3,7 @@ use mathlib.Core.Path.{_≡_, refl, sym, _∙_}
 use mathlib.Core.Bool.{Bool, true, false, cond}
 use mathlib.Core.List.{List, [], _∷_, map}
 use mathlib.Core.Option.{Option, some, none}
-use Prim.Native.Nat.{ℕ, zero, suc, _-_, _≤_, _<_}
+use Prim.Native.Nat.{ℕ, zero, suc, _≤_, _<_}
 use native.Mathlib.Omega.{arith}
 use native.Mathlib.Decide.{decLt}
 use borrow.Author.Tests.{le-leb, lt-leb}
@@ -87,9 +87,9 @@ pub source-at : (op : ℕ) → getD sources op 0 ≡ sourceAt op
 unfolding sources sourceAt callOn sourceOf
 source-at op = source-of (numbered 0 0 (buffers [] [] [])) op
 
--- not the one above k, so at most k
-pub below : {k op : ℕ} → op ≤ suc k → (op ≡ suc k → ⊥) → op ≤ k
-below {k} {op} h f = elim (decLt k op) [ yes l ↦ absurd (f (omega arith)) | no l ↦ omega arith ]
+-- at most k and not k, so below it
+pub below : {k op : ℕ} → op < suc k → (op ≡ k → ⊥) → op < k
+below {k} {op} h f = elim (decLt op k) [ yes l ↦ l | no l ↦ absurd (f (omega arith)) ]
 
 -- not k, so above it
 pub above : {k op : ℕ} → k ≤ op → (op ≡ k → ⊥) → suc k ≤ op

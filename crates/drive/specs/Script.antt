@@ -7,7 +7,7 @@ use Prim.Native.Nat.{ℕ, zero, suc, _+_, _*_}
 use lib.Dec.{eqb, leb, ltb}
 use lib.ListN.{length, getD, take, drop}
 use Rattle.drive.specs.declared.lending.Sizes.{Sizes}
-use Rattle.promises.specs.Book.{Call, start, feed, load, ask, split, longest, mask, radius, next, fold, lift}
+use Rattle.promises.specs.Book.{Call, start, feed, load, mark, back, ask, split, longest, mask, radius, next, fold, lift}
 
 -- What is lent beside the state: entries of lists, bytes of outputs, and bytes that calls only read; what is left of each
 pub record Buffers : Type 0 where
@@ -31,11 +31,13 @@ numbered b x part =
     ∷ ask (fold x b (part .bytes))
     ∷ ask (lift b)
     ∷ load (part .input)
+    ∷ mark b
+    ∷ back b
     ∷ []
 
 -- how many they are
 abbrev pub callCount : ℕ
-callCount = 10
+callCount = 12
 
 pub counted : (b x : ℕ) (part : Buffers) → length (numbered b x part) ≡ callCount
 unfolding numbered
@@ -64,6 +66,8 @@ unfoldable pub sourceOf : Call → ℕ
 sourceOf (start K) = nothing
 sourceOf (feed pick visits) = ofLists
 sourceOf (load lifts) = ofInput
+sourceOf (mark name) = nothing
+sourceOf (back name) = nothing
 sourceOf (ask (split i k ends)) = ofLists
 sourceOf (ask longest) = nothing
 sourceOf (ask (mask i)) = nothing

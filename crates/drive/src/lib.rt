@@ -30,6 +30,7 @@ use cells::Centre;
 use cells::Centres;
 use cells::Letters;
 use cells::Lifts;
+use cells::Marks;
 use cells::Numbers;
 use cells::Places;
 use text::bytes::write_bytes;
@@ -117,6 +118,7 @@ fn advance(
     letters: &mut Letters,
     codes: &mut Letters,
     lifts: &mut Lifts,
+    marks: &mut Marks,
     centres: &mut Centres,
     places: &mut Places,
     numbers: &mut [usize; 3],
@@ -128,14 +130,12 @@ fn advance(
     at: Cursor,
 ) -> Cursor
     requires { ⌜ (at .listed ≤ length (now lists)) × (at .written ≤ length (now bytes)) × (at .read ≤ length (now input)) ⌝ }
-    ensures { λ r. ⌜ AdvancesAt
-        (stateOf (now (numbers .entry)) (now (letters .entry)) (now (codes .entry)) (now (lifts .entry)) (now (centres .entry)) (now (places .entry)))
-        (now (script .entry)) (buffers (now (lists .entry)) (now (bytes .entry)) (now (input .entry))) (now (answers .entry)) at r
-        (stateOf (now (numbers .exit)) (now (letters .exit)) (now (codes .exit)) (now (lifts .exit)) (now (centres .exit)) (now (places .exit)))
+    ensures { λ r. ⌜ AdvancesAt (now (script .entry)) (buffers (now (lists .entry)) (now (bytes .entry)) (now (input .entry))) (now (answers .entry)) at r
+        (stateOf (now (numbers .entry)) (now (letters .entry)) (now (codes .entry)) (now (lifts .entry)) (now (marks .entry)) (now (centres .entry)) (now (places .entry)))
+        (stateOf (now (numbers .exit)) (now (letters .exit)) (now (codes .exit)) (now (lifts .exit)) (now (marks .exit)) (now (centres .exit)) (now (places .exit)))
         (now (lists .exit)) (now (bytes .exit)) (now (answers .exit)) ⌝ }
 {
     let q = request_at(script, answers.len(), at.made);
-    let held = held_in(numbers);
     let read = at.read;
     let listed = at.listed;
     let written = at.written;
@@ -143,12 +143,13 @@ fn advance(
         letters,
         codes,
         lifts,
+        marks,
         centres,
         places,
         &input[read..],
         &mut lists[listed..],
         &mut bytes[written..],
-        held,
+        held_in(numbers),
         q,
     );
     settle(numbers, answers, at, t)
@@ -160,6 +161,7 @@ pub extern "C" fn drive(
     letters: &mut Letters,
     codes: &mut Letters,
     lifts: &mut Lifts,
+    marks: &mut Marks,
     centres: &mut Centres,
     places: &mut Places,
     numbers: &mut [usize; 3],
@@ -170,9 +172,9 @@ pub extern "C" fn drive(
     answers: &mut [usize],
 ) -> usize
     ensures { λ r. ⌜ Drives
-        (stateOf (now (numbers .entry)) (now (letters .entry)) (now (codes .entry)) (now (lifts .entry)) (now (centres .entry)) (now (places .entry)))
+        (stateOf (now (numbers .entry)) (now (letters .entry)) (now (codes .entry)) (now (lifts .entry)) (now (marks .entry)) (now (centres .entry)) (now (places .entry)))
         (now (script .entry)) (buffers (now (lists .entry)) (now (bytes .entry)) (now (input .entry))) (now (answers .entry)) r
-        (stateOf (now (numbers .exit)) (now (letters .exit)) (now (codes .exit)) (now (lifts .exit)) (now (centres .exit)) (now (places .exit)))
+        (stateOf (now (numbers .exit)) (now (letters .exit)) (now (codes .exit)) (now (lifts .exit)) (now (marks .exit)) (now (centres .exit)) (now (places .exit)))
         (now (lists .exit)) (now (bytes .exit)) (now (answers .exit)) ⌝ }
 {
     let mut at = outset();
@@ -181,6 +183,7 @@ pub extern "C" fn drive(
             letters,
             codes,
             lifts,
+            marks,
             centres,
             places,
             numbers,

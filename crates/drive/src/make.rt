@@ -1,14 +1,13 @@
 // One call on a state in lent parts, by its number.
 ghost use mathlib.Core.Path.{_≡_};
-ghost use Prim.Native.Nat.{_≤_};
+ghost use Prim.Native.Nat.{_≤_, _<_};
 ghost use Rattle.cells.specs.Lanes.{byCentre, byPlace};
-ghost use Rattle.promises.specs.Answers.{startSays, feedSays, loadSays};
+ghost use Rattle.promises.specs.Answers.{startSays, feedSays, loadSays, markSays};
 ghost use Rattle.promises.specs.State.{draftIn};
-ghost use Rattle.drive.specs.Script.{buffers, sourceAt, sizesFor};
+ghost use Rattle.drive.specs.Script.{buffers, sourceAt};
 ghost use Rattle.drive.specs.Drives.{encoded};
 ghost use Rattle.drive.specs.Told.{numbersOf};
-ghost use Rattle.drive.specs.Requests.{requested};
-ghost use Rattle.drive.specs.Calling.{Lent, Answers, Queried, Tries, triedAs, noneTried};
+ghost use Rattle.drive.specs.Calling.{Lent, Answers, Queried, TriesFor, triedAs, noneTried};
 use crate::lending::Sizes;
 use crate::lending::fits;
 use crate::lending::sizes_of;
@@ -18,18 +17,21 @@ use crate::told::centre_told;
 use crate::told::feed_told;
 use crate::told::lift_told;
 use crate::told::load_told;
+use crate::told::mark_told;
 use crate::told::mask_told;
 use crate::told::next_told;
 use crate::told::radius_told;
 use crate::told::record_told;
 use crate::told::split_told;
 use crate::told::start_told;
+use calls::back::Return;
 use calls::feed::Step;
 use calls::start::Begin;
 use cells::Centre;
 use cells::Centres;
 use cells::Letters;
 use cells::Lifts;
+use cells::Marks;
 use cells::NEXT;
 use cells::Numbers;
 use cells::Place;
@@ -37,12 +39,13 @@ use cells::Places;
 use cells::RADIUS;
 use cells::ROWS;
 use promises::LoadAnswer;
+use promises::MarkAnswer;
 
 // How many calls there are: the number of none.
-pub const CALLS: u8 = 10;
+pub const CALLS: u8 = 12;
 
 // What each call is lent its list of: nothing, entries of lists, bytes of outputs, or bytes that it only reads.
-const SOURCES: [u8; CALLS as usize] = [0, 1, 1, 0, 0, 0, 0, 2, 0, 3];
+const SOURCES: [u8; CALLS as usize] = [0, 1, 1, 0, 0, 0, 0, 2, 0, 3, 0, 0];
 
 fn source_at(op: u8) -> u8
     ensures { λ r. ⌜ r ≡ sourceAt op ⌝ }
@@ -94,6 +97,28 @@ fn loaded(answer: LoadAnswer, held: Numbers) -> Called
     }
 }
 
+// What came of a mark, on a state of these numbers.
+fn marked(answer: MarkAnswer, held: Numbers) -> Called
+    ensures { λ c. ⌜ (numbersOf (c .told) ≡ encoded (markSays answer)) × (c .numbers ≡ held) ⌝ }
+{
+    Called {
+        told: mark_told(answer),
+        numbers: held,
+    }
+}
+
+// What came of going back.
+fn returned(r: Return) -> Called
+    ensures { λ c. ⌜ (numbersOf (c .told) ≡ encoded (markSays (r .answer))) × (c .numbers ≡ r .numbers) ⌝ }
+{
+    let answer = r.answer;
+    let numbers = r.numbers;
+    Called {
+        told: mark_told(answer),
+        numbers,
+    }
+}
+
 // The answer to a request of number 2 to 8; list and output are what it is lent.
 fn ask(
     letters: &Letters,
@@ -105,9 +130,9 @@ fn ask(
     held: Numbers,
     q: Request,
 ) -> Told
-    requires { ⌜ (2 ≤ q .op) × (q .op ≤ 8) × Lent q (now list) (now output) ⌝ }
+    requires { ⌜ (2 ≤ q .op) × (q .op < 9) × Lent q (now list) (now output) ⌝ }
     ensures { λ t. ⌜ Queried
-        (λ codes. draftIn held (now (letters .entry)) codes (now (lifts .entry)) (byCentre (now (centres .entry))) (byPlace (now (places .entry))))
+        (λ codes marks. draftIn held (now (letters .entry)) codes (now (lifts .entry)) marks (byCentre (now (centres .entry))) (byPlace (now (places .entry))))
         q (now (list .entry)) (now (output .entry)) t (now (list .exit)) (now (output .exit)) ⌝ }
 {
     let op = q.op;
@@ -136,6 +161,7 @@ fn call(
     letters: &mut Letters,
     codes: &mut Letters,
     lifts: &mut Lifts,
+    marks: &mut Marks,
     centres: &mut Centres,
     places: &mut Places,
     input: &[u8],
@@ -146,16 +172,18 @@ fn call(
 ) -> Called
     requires { ⌜ Lent q (now list) (now output) ⌝ }
     ensures { λ c. ⌜ Answers
-        (draftIn held (now (letters .entry)) (now (codes .entry)) (now (lifts .entry)) (byCentre (now (centres .entry))) (byPlace (now (places .entry))))
+        (draftIn held (now (letters .entry)) (now (codes .entry)) (now (lifts .entry)) (now (marks .entry)) (byCentre (now (centres .entry))) (byPlace (now (places .entry))))
         q (buffers (now (list .entry)) (now (output .entry)) (now (input .entry))) (c .told)
-        (draftIn (c .numbers) (now (letters .exit)) (now (codes .exit)) (now (lifts .exit)) (byCentre (now (centres .exit))) (byPlace (now (places .exit))))
+        (draftIn (c .numbers) (now (letters .exit)) (now (codes .exit)) (now (lifts .exit)) (now (marks .exit)) (byCentre (now (centres .exit))) (byPlace (now (places .exit))))
         (now (list .exit)) (now (output .exit)) ⌝ }
 {
     let op = q.op;
     match op {
-        0 => begun(calls::start::start(letters, codes, lifts, centres, places, held, q.b)),
+        0 => begun(calls::start::start(letters, codes, lifts, marks, centres, places, held, q.b)),
         1 => fed(calls::feed::feed(letters, codes, lifts, centres, places, list, held, q.b)),
         9 => loaded(calls::load::load(lifts, held, input), held),
+        10 => marked(calls::mark::mark(marks, held, q.b), held),
+        11 => returned(calls::back::back(letters, codes, lifts, marks, centres, places, held, q.b)),
         _ => {
             let told = ask(letters, lifts, centres, places, list, output, held, q);
             Called {
@@ -215,6 +243,7 @@ pub fn make(
     letters: &mut Letters,
     codes: &mut Letters,
     lifts: &mut Lifts,
+    marks: &mut Marks,
     centres: &mut Centres,
     places: &mut Places,
     input: &[u8],
@@ -223,12 +252,10 @@ pub fn make(
     held: Numbers,
     q: Request,
 ) -> Tried
-    ensures { λ t. ⌜ Tries
-        (draftIn held (now (letters .entry)) (now (codes .entry)) (now (lifts .entry)) (byCentre (now (centres .entry))) (byPlace (now (places .entry))))
-        (sizesFor (q .op) (q .m)) (buffers (now (lists .entry)) (now (bytes .entry)) (now (input .entry))) t
-        (draftIn (t .numbers) (now (letters .exit)) (now (codes .exit)) (now (lifts .exit)) (byCentre (now (centres .exit))) (byPlace (now (places .exit))))
-        (now (lists .exit)) (now (bytes .exit))
-        (requested q (buffers (now (lists .entry)) (now (bytes .entry)) (now (input .entry)))) ⌝ }
+    ensures { λ t. ⌜ TriesFor q (buffers (now (lists .entry)) (now (bytes .entry)) (now (input .entry))) t
+        (draftIn held (now (letters .entry)) (now (codes .entry)) (now (lifts .entry)) (now (marks .entry)) (byCentre (now (centres .entry))) (byPlace (now (places .entry))))
+        (draftIn (t .numbers) (now (letters .exit)) (now (codes .exit)) (now (lifts .exit)) (now (marks .exit)) (byCentre (now (centres .exit))) (byPlace (now (places .exit))))
+        (now (lists .exit)) (now (bytes .exit)) ⌝ }
 {
     let z = sizes_of(source_at(q.op), q.m);
     if fits(q.op, z, lists.len(), bytes.len(), input.len()) {
@@ -239,6 +266,7 @@ pub fn make(
             letters,
             codes,
             lifts,
+            marks,
             centres,
             places,
             &input[..read],

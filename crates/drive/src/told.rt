@@ -1,6 +1,6 @@
 // An answer in four numbers.
 ghost use mathlib.Core.Path.{_≡_};
-ghost use Rattle.promises.specs.Answers.{startSays, feedSays, loadSays, maskSays, radiusSays, centreSays, nextSays, splitSays, recordSays, liftSays, unfoldSays};
+ghost use Rattle.promises.specs.Answers.{startSays, feedSays, loadSays, markSays, maskSays, radiusSays, centreSays, nextSays, splitSays, recordSays, liftSays, unfoldSays};
 ghost use Rattle.drive.specs.Drives.{encoded};
 ghost use Rattle.drive.specs.Told.{numbersOf, toldGiven, toldRefused, toldRefusedAt, turnNumbers, yieldedNumbers, foundNumbers};
 use layout::Found;
@@ -10,6 +10,7 @@ use promises::CentreAnswer;
 use promises::FeedAnswer;
 use promises::LiftAnswer;
 use promises::LoadAnswer;
+use promises::MarkAnswer;
 use promises::MaskAnswer;
 use promises::NextAnswer;
 use promises::RadiusAnswer;
@@ -60,6 +61,15 @@ pub fn start_told(a: StartAnswer) -> Told
     match a {
         StartAnswer::Begun => given(0, 0),
         StartAnswer::Refused(number) => refused(number),
+    }
+}
+
+pub fn mark_told(a: MarkAnswer) -> Told
+    ensures { λ r. ⌜ numbersOf r ≡ encoded (markSays a) ⌝ }
+{
+    match a {
+        MarkAnswer::Done => given(0, 0),
+        MarkAnswer::Refused(number) => refused(number),
     }
 }
 

@@ -28,6 +28,7 @@ pub fn stored() -> Draft {
         letters: [90u8; PICKS],
         codes: [7u8; PICKS],
         lifts: [7u8; ALPHABET],
+        marks: [7u16; ALPHABET],
         radius: [7u16; 2 * PICKS + 2],
         heads: [7u16; PICKS + 1],
         lends: [7u16; 2 * PICKS + 2],
@@ -83,7 +84,7 @@ fn fed(picks: &[u8]) -> Draft {
 }
 
 // The mask of all picks.
-fn say_mask(draft: Draft) {
+pub fn say_mask(draft: Draft) {
     let n = draft.n;
     text(b"mask of prefix");
     number(n);

@@ -12,7 +12,7 @@ use Rattle.layout.specs.Entries.{every-at, every-snoc}
 use Rattle.promises.specs.Answers.{reply}
 use Rattle.promises.specs.Lifts.{tableSize, liftIn, liftedBy, Distinct}
 use Rattle.promises.specs.LiftLaws.{lifted-length, lifted-at}
-use Rattle.promises.specs.Book.{Book, Call, start, feed, load, ask, split, longest, mask, radius, next, fold, lift, blank, lent, lifted, fedRow, bookOf}
+use Rattle.promises.specs.Book.{Book, Call, start, feed, load, mark, back, ask, split, longest, mask, radius, next, fold, lift, blank, lent, lifted, fedRow, bookOf}
 use Rattle.promises.specs.Replies.{orNoEnding, gives, fedReply, splitReply, recordReply, refusalOf, placed, foundFor, replyTo}
 use Rattle.promises.specs.RefusalLaws.{feed-fits, mask-fits, record-fits, split-fits}
 use Rattle.promises.specs.BookLaws.{unless-as}
@@ -39,13 +39,13 @@ module _ (lifts other row : List ℕ) (h : Every Letter row) (a : Alike lifts ot
   v : List ℕ
   v = liftedBy other row
 
-  forth : Like (word u) (word v) (length row)
+  forward : Like (word u) (word v) (length row)
   unfolding u v
-  forth = row-like lifts other row a h
+  forward = row-like lifts other row a h
 
-  back : Like (word v) (word u) (length row)
+  backward : Like (word v) (word u) (length row)
   unfolding u v
-  back = row-like other lifts row (alike-back lifts other a) h
+  backward = row-like other lifts row (alike-back lifts other a) h
 
   -- each is as long as the row
   as-long : {A : Type 0} (f : (ℕ → ℕ) → ℕ → A) → ((n : ℕ) → n ≤ length row → f (word u) n ≡ f (word v) n) → f (word u) (length u) ≡ f (word v) (length v)
@@ -53,21 +53,21 @@ module _ (lifts other row : List ℕ) (h : Every Letter row) (a : Alike lifts ot
   as-long f e = ap (f (word u)) (lifted-length lifts row) ∙ e (length row) (omega arith) ∙ ap (f (word v)) (sym (lifted-length other row))
 
   mask-same : (K : ℕ) → maskOf K (word u) (length u) ≡ maskOf K (word v) (length v)
-  mask-same K = as-long (maskOf K) (mask-like forth back K)
+  mask-same K = as-long (maskOf K) (mask-like forward backward K)
 
   visits-same : visits (word u) (length u) ≡ visits (word v) (length v)
-  visits-same = as-long visits (visits-like forth back)
+  visits-same = as-long visits (visits-like forward backward)
 
 -- One call that passes the tests that do not hang on the picks
 
 module _ (b : Book) (other : List ℕ) (h : Every Letter (b .row)) (a : Alike (b .lifts) other) where
   to : Like (word (lifted b)) (word (lifted (withTable b other))) (length (b .row))
   unfolding u v
-  to = forth (b .lifts) other (b .row) h a
+  to = forward (b .lifts) other (b .row) h a
 
   from : Like (word (lifted (withTable b other))) (word (lifted b)) (length (b .row))
   unfolding u v
-  from = back (b .lifts) other (b .row) h a
+  from = backward (b .lifts) other (b .row) h a
 
   split-same : (i k : ℕ) → i ≤ length (b .row) → splitOf (word (lifted b)) i k ≡ splitOf (word (lifted (withTable b other))) i k
   split-same i k l = splits-like to from k i l
@@ -79,6 +79,8 @@ module _ (b : Book) (other : List ℕ) (h : Every Letter (b .row)) (a : Alike (b
       let g = every-snoc h (feed-fits (length (b .row)) (b .K) pick (length list) z .letter) in
       ap₂ (λ m vs. fedReply m vs list) (mask-same (b .lifts) other (fedRow b pick) g a (b .K)) (visits-same (b .lifts) other (fedRow b pick) g a)
   found-alike (load lifts) f z = refl
+  found-alike (mark name) f z = refl
+  found-alike (back name) f z = refl
   found-alike (ask (split i k list)) f z =
       ap (λ o. splitReply o list) (split-same i k (split-fits (length (b .row)) (b .K) i k (length list) z .0 .prefix))
   found-alike (ask longest) f z = ap (λ c. gives (c ∷ [])) (as-long (b .lifts) other (b .row) h a longestCentre (longest-like to from))

@@ -6,9 +6,9 @@ use Prim.Native.Nat.{ℕ}
 use native.Mathlib.Omega.{arith}
 use lib.ListN.{length}
 use Rattle.promises.specs.Answers.{refused, refusedAt, Under, Reply}
-use Rattle.promises.specs.Book.{Book, Query, Call, ask, lent, lifted, split, next, fold}
+use Rattle.promises.specs.Book.{Book, Call, mark, back, ask, lent, lifted, split, next, fold}
 use Rattle.promises.specs.Replies.{unless, placed, foundFor, replyTo}
-use Rattle.promises.specs.Listed.{Line, First, NoneMet, recordLonger, noSplit, noEnding, listed, sought, lines}
+use Rattle.promises.specs.Listed.{Line, First, NoneMet, recordLonger, noSplit, noEnding, noSuchMark, fifthName, listed, sought, lines}
 use Rattle.promises.specs.Says.{Says}
 use Rattle.promises.specs.BookLaws.{unless-zero, unless-not, placed-under, placed-list}
 use Rattle.promises.specs.Demands.{Accepted, NoneListed, PlaceOf, Late, Answered}
@@ -17,7 +17,7 @@ use Rattle.promises.proofs.Finding.{Outcome, under, fine}
 use Rattle.promises.proofs.Calls.{listed-tested, found-outcome}
 use Rattle.promises.proofs.Placing.{under-one, placed-at, zero-met, found-plain}
 
--- 9, 10 and 5 each by itself, from the first line that is met
+-- 9, 10, 5, 18 and 17 each by itself, from the first line that is met
 
 -- the one line of a list of one; the first and the second of two
 
@@ -43,10 +43,10 @@ module _ (b : Book) (r : Reply) where
 
   -- behind the lines that need no picks
   behind : (call : Call) → ByFirst call → (x : ℕ) → Others (listed (length (b .row)) (b .K) call) x
-      → (r .said ≡ refused x) ↔ (NoneListed b call × First (sought (b .row) (lifted b) call) x)
+      → (r .said ≡ refused x) ↔ (NoneListed b call × First (sought b call) x)
   behind call f x o = (
-    λ e. first-past (listed (length (b .row)) (b .K) call) (sought (b .row) (lifted b) call) x o (f x .0 e),
-    λ p. f x .1 (first-behind (listed (length (b .row)) (b .K) call) (sought (b .row) (lifted b) call) x (p .0) (p .1)),
+    λ e. first-past (listed (length (b .row)) (b .K) call) (sought b call) x o (f x .0 e),
+    λ p. f x .1 (first-behind (listed (length (b .row)) (b .K) call) (sought b call) x (p .0) (p .1)),
   )
 
   split-late : (i k : ℕ) (ends : List ℕ) → ByFirst (ask (split i k ends))
@@ -61,6 +61,18 @@ module _ (b : Book) (r : Reply) where
   next-late c f =
       let q = behind (ask (next c)) f 10 (λ e. omega arith, (λ e. omega arith, tt)) in
       (λ e. (q .0 e .0, alone (noEnding (lifted b) c) 10 (q .0 e .1)), λ p. q .1 (p .0, inl (p .1, refl)))
+
+  mark-late : (name : ℕ) → ByFirst (mark name) → (r .said ≡ refused 18) ↔ (NoneListed b (mark name) × fifthName (b .marks) name .Met)
+  unfolding Others First listed sought
+  mark-late name f =
+      let q = behind (mark name) f 18 (λ e. omega arith, (λ e. omega arith, tt)) in
+      (λ e. (q .0 e .0, alone (fifthName (b .marks) name) 18 (q .0 e .1)), λ p. q .1 (p .0, inl (p .1, refl)))
+
+  back-late : (name : ℕ) → ByFirst (back name) → (r .said ≡ refused 17) ↔ (NoneListed b (back name) × noSuchMark (b .marks) name .Met)
+  unfolding Others First listed sought
+  back-late name f =
+      let q = behind (back name) f 17 (λ e. omega arith, (λ e. omega arith, tt)) in
+      (λ e. (q .0 e .0, alone (noSuchMark (b .marks) name) 17 (q .0 e .1)), λ p. q .1 (p .0, inl (p .1, refl)))
 
   module _ (i k : ℕ) (output : List ℕ) (f : ByFirst (ask (fold i k output))) where
     none-left : Line
@@ -83,24 +95,27 @@ module _ (b : Book) (r : Reply) where
           λ p. q .1 (p .0, inr (λ g. g (p .1 .0) (p .1 .1 .is), inl (p .1, refl))),
         )
 
-same-number : {x y : ℕ} → refused x ≡ refused y → x ≡ y
+pub same-number : {x y : ℕ} → refused x ≡ refused y → x ≡ y
 same-number e = cc
 
--- a query's number names no place
-query-first : (b : Book) (q : Query) (r : Reply) → Outcome b (ask q) (lines b (ask q)) r → ByFirst b r (ask q)
-query-first b q r (under y p e) x = (
-  λ z. let w : y ≡ x = same-number (sym (ap (λ a. a .said) e) ∙ z) in rw w at p,
-  λ z. ap (λ a. a .said) e ∙ ap refused (first-one (lines b (ask q)) p z),
-)
-query-first b q r (fine p ok s) x = (λ z. absurd (ok x (inl z)), λ z. absurd (first-none (lines b (ask q)) x z p))
+-- a call whose numbers name no place
+plain-first : (b : Book) (call : Call) (r : Reply) → ((s : Reply) → placed call s ≡ s) → Outcome b call (lines b call) r → ByFirst b r call
+plain-first b call r f (under y p e) x =
+    let g : r .said ≡ refused y = ap (λ a. a .said) (e ∙ f _) in (
+      λ z. let w : y ≡ x = same-number (sym g ∙ z) in rw w at p,
+      λ z. g ∙ ap refused (first-one (lines b call) p z),
+    )
+plain-first b call r f (fine p ok s) x = (λ z. absurd (ok x (inl z)), λ z. absurd (first-none (lines b call) x z p))
 
 module _ (b : Book) (call : Call) (r : Reply) where
   late : Outcome b call (lines b call) r → Late b call r
   late o = record {
-    split9 = λ i k ends e. rw e (split-late b r i k ends (query-first b (split i k ends) r (rw e at o)));
-    next10 = λ c e. rw e (next-late b r c (query-first b (next c) r (rw e at o)));
-    record9 = λ i k output e. rw e (record-nine b r i k output (query-first b (fold i k output) r (rw e at o)));
-    record5 = λ i k output e. rw e (record-five b r i k output (query-first b (fold i k output) r (rw e at o)));
+    split9 = λ i k ends e. rw e (split-late b r i k ends (plain-first b (ask (split i k ends)) r (λ s. refl) (rw e at o)));
+    next10 = λ c e. rw e (next-late b r c (plain-first b (ask (next c)) r (λ s. refl) (rw e at o)));
+    record9 = λ i k output e. rw e (record-nine b r i k output (plain-first b (ask (fold i k output)) r (λ s. refl) (rw e at o)));
+    record5 = λ i k output e. rw e (record-five b r i k output (plain-first b (ask (fold i k output)) r (λ s. refl) (rw e at o)));
+    mark18 = λ name e. rw e (mark-late b r name (plain-first b (mark name) r (λ s. refl) (rw e at o)));
+    back17 = λ name e. rw e (back-late b r name (plain-first b (back name) r (λ s. refl) (rw e at o)));
   }
 
   outcome-answers : Outcome b call (lines b call) r → Answered b call r
@@ -157,12 +172,12 @@ answered b call = outcome-answers b call _ (go _ (listed-tested (length (b .row)
     found : Reply
     found = foundFor b call
 
-    behind : NoneMet ls → Outcome b call (sought (b .row) (lifted b) call) found → Outcome b call (lines b call) found
-    behind p (under x q e) = under x (first-behind ls (sought (b .row) (lifted b) call) x p q) e
-    behind p (fine q ok s) = fine (none-both ls (sought (b .row) (lifted b) call) p q) ok s
+    behind : NoneMet ls → Outcome b call (sought b call) found → Outcome b call (lines b call) found
+    behind p (under x q e) = under x (first-behind ls (sought b call) x p q) e
+    behind p (fine q ok s) = fine (none-both ls (sought b call) p q) ok s
 
     go : (number : ℕ) → Tested ls number → Outcome b call (lines b call) (placed call (unless number (lent call) found))
     go number (hit p q) =
-        under number (first-front ls (sought (b .row) (lifted b) call) number p) (ap (placed call) (unless-not number (lent call) found q))
+        under number (first-front ls (sought b call) number p) (ap (placed call) (unless-not number (lent call) found q))
     go number (clear p q) =
         rw (unless-zero number (lent call) found q, found-plain b call) (behind p (found-outcome b call p))

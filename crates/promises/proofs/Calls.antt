@@ -11,8 +11,8 @@ use Rattle.words.specs.Laws.{longest-is, visits-are}
 use Rattle.promises.specs.declared.Draft.{Draft}
 use Rattle.promises.specs.Answers.{filled}
 use Rattle.layout.specs.Record.{recordOf}
-use Rattle.promises.specs.Refusals.{startRefusal, feedRefusal, loadRefusal, maskRefusal, centreRefusal, longestRefusal, splitRefusal, recordRefusal, liftRefusal}
-use Rattle.promises.specs.Book.{Book, Query, Call, start, feed, load, ask, split, longest, mask, radius, next, fold, lift, lent, lifted, fedLifted}
+use Rattle.promises.specs.Refusals.{startRefusal, feedRefusal, loadRefusal, maskRefusal, centreRefusal, longestRefusal, splitRefusal, recordRefusal, letterRefusal}
+use Rattle.promises.specs.Book.{Book, Query, Call, start, feed, load, mark, back, ask, split, longest, mask, radius, next, fold, lift, lent, lifted, fedLifted}
 use Rattle.promises.specs.Replies.{refusalOf, foundFor}
 use Rattle.promises.specs.Listed.{First, NoneMet, listed, sought}
 use Rattle.promises.specs.Says.{Says}
@@ -20,11 +20,11 @@ use Rattle.promises.specs.Promises.{nextHeld, splitHeld, foundIn}
 use Rattle.promises.specs.Demands.{soughtNumbers}
 use Rattle.promises.proofs.Keeping.{gave-accepted}
 use Rattle.promises.proofs.Listing.{Tested, over, check-outside, check-list, check-prefix, check-draft, check-full, check-equal, check-zero}
-use Rattle.promises.proofs.Finding.{Outcome, fine, mask-yes, splits-found, radius-found, next-found, record-found, OnlyUnder, gave-only, no-split-only, no-ending-only, too-long-only}
+use Rattle.promises.proofs.Finding.{Outcome, fine, mask-yes, splits-found, radius-found, next-found, record-found, mark-found, back-found, OnlyUnder, gave-only, no-split-only, no-ending-only, too-long-only}
 
 -- the number of a call is that of the first of its lines that is met
 pub listed-tested : (n K : ℕ) (call : Call) → Tested (listed n K call) (refusalOf n K call)
-unfolding listed refusalOf startRefusal feedRefusal loadRefusal splitRefusal longestRefusal maskRefusal centreRefusal recordRefusal liftRefusal
+unfolding listed refusalOf startRefusal feedRefusal loadRefusal splitRefusal longestRefusal maskRefusal centreRefusal recordRefusal letterRefusal
 listed-tested n K (start k) = check-outside 1 1 mostSections k [] 0 (λ e. omega arith) over
 listed-tested n K (feed pick visits) = check-draft n K _ _ (λ h.
     check-outside 2 firstLetter lastLetter pick _ _ (λ e. omega arith)
@@ -32,6 +32,8 @@ listed-tested n K (feed pick visits) = check-draft n K _ _ (λ h.
 listed-tested n K (load lifts) = check-draft n K _ _ (λ _.
     check-equal 14 tableSize (length lifts) _ _ (λ e. omega arith)
     (check-zero lifts _ _ (check-equal 16 0 n [] 0 (λ e. omega arith) over)))
+listed-tested n K (mark name) = check-draft n K _ _ (λ _. check-outside 2 firstLetter lastLetter name [] 0 (λ e. omega arith) over)
+listed-tested n K (back name) = check-draft n K _ _ (λ _. check-outside 2 firstLetter lastLetter name [] 0 (λ e. omega arith) over)
 listed-tested n K (ask (split i k ends)) = check-draft n K _ _ (λ _.
     check-outside 1 1 K k _ _ (λ e. omega arith) (check-list 13 k (length ends) _ _ (λ e. omega arith) (check-prefix n i [] 0 over)))
 listed-tested n K (ask longest) = check-draft n K [] 0 (λ _. over)
@@ -41,9 +43,9 @@ listed-tested n K (ask (next c)) = check-draft n K _ _ (λ _. check-outside 4 1 
 listed-tested n K (ask (fold i k output)) = check-draft n K _ _ (λ _. check-outside 1 1 K k _ _ (λ e. omega arith) (check-prefix n i [] 0 over))
 listed-tested n K (ask (lift letter)) = check-draft n K _ _ (λ _. check-outside 2 firstLetter lastLetter letter [] 0 (λ e. omega arith) over)
 
--- whatever stands in the book, what it has in reply is refused by a line that hangs on the picks, or says what document 01 says
+-- whatever stands in the book, what it has in reply is refused by a line that hangs on the picks or the marks, or says what document 01 says
 pub found-outcome : (b : Book) (call : Call) → NoneMet (listed (length (b .row)) (b .K) call)
-    → Outcome b call (sought (b .row) (lifted b) call) (foundFor b call)
+    → Outcome b call (sought b call) (foundFor b call)
 unfolding foundFor listed sought First NoneMet Says longestCentre
 found-outcome b (start k) p = fine tt (gave-accepted refl) refl
 found-outcome b (feed pick list) p = fine tt (gave-accepted refl) (record {
@@ -54,6 +56,8 @@ found-outcome b (feed pick list) p = fine tt (gave-accepted refl) (record {
   is = refl;
 })
 found-outcome b (load lifts) p = fine tt (gave-accepted refl) refl
+found-outcome b (mark name) p = mark-found b name
+found-outcome b (back name) p = back-found b name
 found-outcome b (ask (split i k list)) p = splits-found b i k list
 found-outcome b (ask longest) p =
     fine tt (gave-accepted refl) (record { L = _; longest = longest-is (word (lifted b)) (length (lifted b)); is = refl })

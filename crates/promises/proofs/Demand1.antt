@@ -12,22 +12,26 @@ use Rattle.promises.specs.declared.Draft.{Draft}
 use Rattle.promises.specs.declared.Started.{Started}
 use Rattle.promises.specs.declared.Fed.{Fed}
 use Rattle.promises.specs.declared.Loaded.{Loaded}
-use Rattle.promises.specs.Answers.{gave, refused, refusedAt, Under, Reply, reply, startSays, feedSays, loadSays}
-use Rattle.promises.specs.Refusals.{startRefusal, feedRefusal, loadRefusal, showRefusal, liftRefusal}
+use Rattle.promises.specs.declared.MarkAnswer.{MarkAnswer}
+use Rattle.promises.specs.declared.MarkAnswer.the-variants.{Done, Refused as MarkRefused}
+use Rattle.promises.specs.declared.Marked.{Marked}
+use Rattle.promises.specs.Answers.{gave, refused, refusedAt, Under, Reply, reply, startSays, feedSays, loadSays, markSays}
+use Rattle.promises.specs.Refusals.{startRefusal, feedRefusal, loadRefusal, showRefusal, letterRefusal}
 use Rattle.promises.specs.Lifts.{liftIn}
-use Rattle.promises.specs.Book.{Book, Query, Call, start, feed, load, ask, lift, lent, blank, bookOf}
-use Rattle.promises.specs.Replies.{unless, gives, refusalOf, placed, foundFor, replyTo, sectionOf, shown}
+use Rattle.promises.specs.Marks.{markAt, isMark, roomFor}
+use Rattle.promises.specs.Book.{Book, Query, Call, start, feed, load, mark, back, ask, lift, lent, blank, bookOf}
+use Rattle.promises.specs.Replies.{unless, orNoMark, orFifthName, gives, refusalOf, placed, foundFor, replyTo, sectionOf, shown}
 use Rattle.promises.specs.Listed.{Line, First, NoneMet, listed, sought, showLines}
 use Rattle.promises.specs.Says.{PartOf}
 use Rattle.promises.specs.BookLaws.{unless-zero, unless-not, placed-under, placed-list}
 use Rattle.promises.specs.ShowLaws.{part-fits}
-use Rattle.promises.specs.State.{arraysOf, codeIn}
-use Rattle.promises.specs.Promises.{maskByte, foundIn, computedTo, StartPromise, FeedPromise, LoadPromise, Reads, ShowPromise}
-use Rattle.promises.specs.Runs.{Made, started, fed, loaded, asked, callOf, calls, replyOf, Meets, leaves}
+use Rattle.promises.specs.State.{arraysOf, codeIn, marksOf}
+use Rattle.promises.specs.Promises.{maskByte, foundIn, computedTo, StartPromise, FeedPromise, LoadPromise, MarkPromise, BackPromise, Reads, ShowPromise}
+use Rattle.promises.specs.Runs.{Made, started, fed, loaded, marked, returned, asked, callOf, calls, replyOf, Meets, leaves}
 use Rattle.promises.specs.Demands.{soughtNumbers, PlaceOf, Demand1Holds, Answered, Demand1RunHolds, ShowRight, ShowHolds, LiftRight, LiftHolds}
 use Rattle.promises.proofs.Keeping.{gave-accepted, said-is, replied-at}
 use Rattle.promises.proofs.Listing.{Tested, hit, clear, first-one, first-none, show-tested}
-use Rattle.promises.proofs.Finding.{OnlyUnder, gave-only}
+use Rattle.promises.proofs.Finding.{OnlyUnder, gave-only, marks-only}
 use Rattle.promises.proofs.Calls.{listed-tested, found-only}
 use Rattle.promises.proofs.Placing.{no-place, placed-at, zero-met}
 use Rattle.promises.proofs.Answering.{answered}
@@ -106,12 +110,32 @@ load-numbered {d} {lifts} p = record {
     number : ℕ
     number = loadRefusal (d .n) (d .k) lifts
 
+mark-numbered : {d : Draft} {name : ℕ} {r : Marked} → MarkPromise d name r
+    → ByNumber (refusalOf (d .n) (d .k) (mark name)) (mark name) (reply (markSays (r .answer)) [])
+unfolding lent sought
+mark-numbered {d} {name} p =
+    record { found = reply (orFifthName (marksOf d) name) []; is = p .computes; plain = refl; only = marks-only (roomFor (marksOf d) name) 18 }
+
+back-numbered : {d : Draft} {name : ℕ} {r : Marked} → BackPromise d name r
+    → ByNumber (refusalOf (d .n) (d .k) (back name)) (back name) (reply (markSays (r .answer)) [])
+unfolding lent sought
+back-numbered {d} {name} p =
+    record { found = reply (orNoMark (marksOf d) name) []; is = p .computes; plain = refl; only = marks-only (isMark (markAt (marksOf d) name)) 17 }
+
 numbered : (d : Draft) (m : Made) → Meets d m → ByNumber (refusalOf (d .n) (d .k) (callOf m)) (callOf m) (replyOf m)
 unfolding Meets replyOf callOf
 numbered d (started K r) p = start-numbered p
 numbered d (fed pick before r after) p = feed-numbered p
 numbered d (loaded lifts r) p = load-numbered p
+numbered d (marked name r) p = mark-numbered p
+numbered d (returned name r) p = back-numbered p
 numbered d (asked q r) p = query-numbered p
+
+-- mark and back name no place
+mark-plain : (answer : MarkAnswer) (number : ℕ) → Under (markSays answer) number → markSays answer ≡ refused number
+mark-plain Done number e = absurd (gave-accepted refl number e)
+mark-plain (MarkRefused x) number (inl e) = e
+mark-plain (MarkRefused x) number (inr e) = absurd (no-place (e .1))
 
 -- a refused call leaves the state
 state-kept : (d : Draft) (m : Made) → Meets d m → (number : ℕ) → Under (replyOf m .said) number → leaves d m ≡ d
@@ -120,6 +144,8 @@ state-kept d (started K r) p number e =
     p .refuses (λ z. gave-accepted (said-is (p .says blank ∙ unless-zero (startRefusal K) [] _ z)) number e)
 state-kept d (fed pick before r after) p number e = p .refuses (λ z. gave-accepted (p .computes z .says) number e) .1
 state-kept d (loaded lifts r) p number e = p .refuses (λ z. gave-accepted (p .computes z .0) number e) .1
+state-kept d (marked name r) p number e = p .refuses number (mark-plain (r .answer) number e)
+state-kept d (returned name r) p number e = p .refuses number (mark-plain (r .answer) number e)
 state-kept d (asked q r) p number e = refl
 
 pub demand1 : Demand1Holds
@@ -223,7 +249,7 @@ lift-holds d letter r p = go (listed-tested (d .n) (d .k) (ask (lift letter)))
     ls = listed (d .n) (d .k) (ask (lift letter))
 
     number : ℕ
-    number = liftRefusal (d .n) (d .k) letter
+    number = letterRefusal (d .n) (d .k) letter
 
     go : Tested ls number → LiftRight d letter (r .said)
     go (hit g f) = let e : r .said ≡ refused number = said-is (p .computes ∙ unless-not number [] _ f) in record {

@@ -1,6 +1,6 @@
 -- Demand 3: one theorem about every run.
 use mathlib.Core.Path.{_≡_, refl, sym, ap, subst, _∙_}
-use mathlib.Core.Bool.{true}
+use mathlib.Core.Bool.{Bool, true, false, _&&_, false≢true}
 use mathlib.Core.Logic.{_↔_, inl}
 use mathlib.Core.List.{List, [], _∷_, _++_}
 use mathlib.Core.Option.{Option, some, none}
@@ -10,7 +10,8 @@ use lib.ListN.{length, take, drop, length-append}
 use lib.Seq.{take-at, drop-at}
 use borrow.Author.Tests.{le-leb}
 use Rattle.words.specs.Cases.{true-false}
-use Rattle.words.specs.Definitions.{mostPicks, mostSections, word, centre, Ending, nextLeading, Follows, Visits}
+use Rattle.words.specs.Ranges.{between}
+use Rattle.words.specs.Definitions.{mostPicks, mostSections, firstLetter, lastLetter, word, centre, Ending, nextLeading, Follows, Visits}
 use Rattle.words.specs.Computed.{splitOf, visits, longestCentre, leastPeriod, nextEnding, shorterAfter}
 use Rattle.words.specs.Computed.{longest as longestOf}
 use Rattle.words.specs.Laws.{least-period, longest-is, longest-centre, next-after, visits-are}
@@ -23,19 +24,22 @@ use Rattle.promises.specs.declared.Draft.{Draft}
 use Rattle.promises.specs.declared.Started.{Started}
 use Rattle.promises.specs.declared.Fed.{Fed}
 use Rattle.promises.specs.declared.Loaded.{Loaded}
-use Rattle.promises.specs.Answers.{Said, gave, refused, refusedAt, Under, Reply, reply, startSays, feedSays, loadSays}
+use Rattle.promises.specs.declared.Marked.{Marked}
+use Rattle.promises.specs.Answers.{Said, gave, refused, refusedAt, Under, Reply, reply, startSays, feedSays, loadSays, markSays}
 use Rattle.promises.specs.Refusals.{startRefusal, loadRefusal, splitRefusal, centreRefusal, longestRefusal}
 use Rattle.promises.specs.Lifts.{liftIn}
 use Rattle.promises.specs.LiftLaws.{lifted-length, lifted-more}
-use Rattle.promises.specs.Book.{Book, load, blank, split, longest, next, lent, lifted, fedRow, fedLifted, startTaken, loadTaken}
-use Rattle.promises.specs.Replies.{orNoSplit, orNoEnding, splitReply, refusalOf, foundFor, replyTo}
+use Rattle.promises.specs.Marks.{markAt, isMark, roomFor}
+use Rattle.promises.specs.Book.{Book, load, blank, split, longest, next, lent, lifted, fedRow, fedLifted, startTaken, loadTaken, markTaken, backTaken}
+use Rattle.promises.specs.Replies.{unless, orNoSplit, orNoEnding, orRefused, splitReply, refusalOf, foundFor, replyTo}
 use Rattle.promises.specs.BookLaws.{Case, taken, left, start-cases, passes7, unless-zero, unless-not, placed-under}
 use Rattle.promises.specs.WritingLaws.{held-fits, load-number, load-case}
+use Rattle.promises.specs.MarkingLaws.{letter-case}
 use Rattle.promises.specs.State.{arraysOf}
 use Rattle.promises.specs.Holds.{Holds}
-use Rattle.promises.specs.Promises.{StartPromise, FeedPromise, LoadPromise, Reads}
+use Rattle.promises.specs.Promises.{StartPromise, FeedPromise, LoadPromise, MarkPromise, BackPromise, Reads}
 use Rattle.promises.specs.Demands.{Accepted, SplitRight, MovedRight, VisitsRight, Demand3Holds}
-use Rattle.promises.proofs.Keeping.{gave-accepted, said-is, list-is, whole, start-met, holds-at-feed, feed-met, holds-at-load, load-met}
+use Rattle.promises.proofs.Keeping.{gave-accepted, said-is, list-is, whole, start-met, holds-at-feed, feed-met, holds-at-load, load-met, mark-met, back-met}
 use Rattle.promises.proofs.Feeding.{fed-accepted, fed-said, fed-list, fed-holds, fed-room}
 
 -- The longest ending's centre
@@ -167,6 +171,32 @@ load-accepted {d} {b} {lifts} {r} h p = go (load-case h lifts)
         let u : Under (loadSays (r .answer)) n = subst (λ s. Under s n) (sym (p .refuses (λ q. z (sym (load-number h lifts) ∙ q)) .0)) (placed-under (load lifts) n []) in
         (λ ok. absurd (ok n u), λ y. absurd (true-false y t))
 
+-- Marks and going back: s tells a name A to Z, t what the marks say
+
+marking-accepted : (s t : Bool) {number : ℕ} (x : ℕ) {said : Said} → Case s number → reply said [] ≡ unless number [] (reply (orRefused t x) [])
+    → Accepted said ↔ ((s && t) ≡ true)
+marking-accepted s t {number} x {said} (left e z) p = (
+  λ ok. absurd (ok number (inl (said-is (p ∙ unless-not number [] _ z)))),
+  λ q. absurd (false≢true (ap (λ y. y && t) (sym e) ∙ q)),
+)
+marking-accepted s t {number} x {said} (taken e z) p = rw e (go t (p ∙ unless-zero number [] _ z))
+  where
+    go : (t : Bool) → reply said [] ≡ reply (orRefused t x) [] → Accepted said ↔ (t ≡ true)
+    go true q = (λ _. refl, λ _. gave-accepted (said-is q))
+    go false q = (λ ok. absurd (ok x (inl (said-is q))), λ y. absurd (false≢true y))
+
+pub mark-accepted : {d : Draft} {b : Book} {name : ℕ} {r : Marked} → Holds d b → MarkPromise d name r
+    → Accepted (markSays (r .answer)) ↔ (markTaken b name ≡ true)
+unfolding replyTo refusalOf lent foundFor
+mark-accepted {b = b} {name = name} h p =
+    marking-accepted (between firstLetter lastLetter name) (roomFor (b .marks) name) 18 (letter-case h name) (p .meaning b h .replies)
+
+pub back-accepted : {d : Draft} {b : Book} {name : ℕ} {r : Marked} → Holds d b → BackPromise d name r
+    → Accepted (markSays (r .answer)) ↔ (backTaken b name ≡ true)
+unfolding replyTo refusalOf lent foundFor
+back-accepted {b = b} {name = name} h p =
+    marking-accepted (between firstLetter lastLetter name) (isMark (markAt (b .marks) name)) 17 (letter-case h name) (p .meaning b h .replies)
+
 pub one : {a b : ℕ} → gave (a ∷ []) ≡ gave (b ∷ []) → a ≡ b
 one {a} {b} e = ap (λ s. first s) e
   where
@@ -184,6 +214,8 @@ demand3 d K r ms o = record {
   starts = λ xs ys k x e. start-accepted (start-met o xs ys e);
   feeds = λ xs pick before x after f. fed-accepted (holds-at-feed o xs f) (feed-met o xs f);
   loads = λ xs ys lifts x e. load-accepted (holds-at-load o xs ys lifts x e) (load-met o xs ys lifts x e);
+  marks = λ xs ys name x e. let m = mark-met o xs ys name x e in mark-accepted (m .0) (m .1);
+  backs = λ xs ys name x e. let m = back-met o xs ys name x e in back-accepted (m .0) (m .1);
   onward = λ xs pick before x after f ok p q i j g k e1 e2.
       let h = holds-at-feed o xs f in
       let m = feed-met o xs f in

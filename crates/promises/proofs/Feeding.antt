@@ -14,7 +14,7 @@ use Rattle.promises.specs.declared.Fed.{Fed}
 use Rattle.promises.specs.Answers.{gave, reply, feedSays, filled}
 use Rattle.promises.specs.Refusals.{feedRefusal}
 use Rattle.words.specs.Ranges.{between}
-use Rattle.promises.specs.Book.{Book, book, lent, fedRow, feedTaken, write}
+use Rattle.promises.specs.Book.{Book, fedBook, lent, feedTaken, write}
 use Rattle.promises.specs.Replies.{unless, fedReply, fedMask, fedVisits, refusalOf, foundFor, replyTo}
 use Rattle.promises.specs.BookLaws.{Case, taken, left, unless-zero, unless-not}
 use Rattle.promises.specs.Holds.{Holds}
@@ -54,11 +54,11 @@ module _ {d : Draft} {b : Book} {pick : ℕ} {before : List ℕ} {r : Fed} {afte
   fed-list ok = list-is (fed-reply ok)
 
   -- the state holds the row with the pick, and there was room for it
-  pub fed-holds : Accepted (feedSays (r .answer)) → Holds (r .state) (book (b .K) (b .lifts) (fedRow b pick))
+  pub fed-holds : Accepted (feedSays (r .answer)) → Holds (r .state) (fedBook b pick)
   unfolding write
   fed-holds ok =
       let t : feedTaken b pick (length before) ≡ true = fed-accepted .0 ok in
-      subst (λ x. Holds (r .state) (cond x (book (b .K) (b .lifts) (fedRow b pick)) b)) t (p .meaning b h .holds)
+      subst (λ x. Holds (r .state) (cond x (fedBook b pick) b)) t (p .meaning b h .holds)
 
   pub fed-room : Accepted (feedSays (r .answer)) → length (b .row) < mostPicks
   fed-room ok =

@@ -1,15 +1,15 @@
 -- What is found, from the book and in the stored arrays: which line refuses it, or what it says.
-use mathlib.Core.Path.{_≡_, refl, ap}
-use mathlib.Core.Bool.{Bool, true, false, cond}
+use mathlib.Core.Path.{_≡_, refl, sym, ap, _∙_}
+use mathlib.Core.Bool.{Bool, true, false, cond, _||_}
 use mathlib.Core.Logic.{inl, inr}
 use mathlib.Core.List.{List, [], _∷_, List·Memᴰ, List·Memᴰ·head, List·Memᴰ·tail}
 use mathlib.Core.Option.{Option, some, none}
 use Prim.Native.Nat.{ℕ, suc, _+_, _*_, _-_, _≤_}
 use native.Mathlib.Omega.{arith}
 use native.Mathlib.Decide.{decLt}
-use lib.Dec.{leb}
+use lib.Dec.{leb, ltb}
 use lib.ListN.{length}
-use borrow.Author.Tests.{le-leb, lt-leb}
+use borrow.Author.Tests.{ltb-true, ltb-false, le-leb, lt-leb}
 use Rattle.words.specs.Cases.{clash}
 use Rattle.words.specs.Definitions.{word}
 use Rattle.words.specs.Search.{smallest-one}
@@ -20,10 +20,11 @@ use Rattle.words.specs.Laws.{row-bit, row-past, mask-bit, least-period, next-en
 use Rattle.words.specs.Splits.{Splitting, given, lacking, split-law, named-one}
 use Rattle.promises.specs.Answers.{gave, refused, Under, Reply, reply, filled}
 use Rattle.layout.specs.Record.{recordOf}
-use Rattle.promises.specs.Book.{Book, Call, ask, lent, lifted, split, next, fold}
-use Rattle.promises.specs.Replies.{orNoSplit, orNoEnding, orTooLong, gives, splitReply, recordReply, placed}
+use Rattle.promises.specs.Marks.{Marks, mostMarks, markAt, isMark, howMany, roomFor}
+use Rattle.promises.specs.Book.{Book, Call, mark, back, ask, lent, lifted, split, next, fold}
+use Rattle.promises.specs.Replies.{orNoSplit, orNoEnding, orTooLong, orRefused, orNoMark, orFifthName, gives, splitReply, recordReply, placed}
 use Rattle.promises.specs.LiftLaws.{lifted-length}
-use Rattle.promises.specs.Listed.{Line, First, NoneMet, Outside, recordLonger, noSplit, noEnding}
+use Rattle.promises.specs.Listed.{Line, First, NoneMet, Outside, recordLonger, noSplit, noEnding, noSuchMark, fifthName}
 use Rattle.promises.specs.Says.{Yes, RadiusSays, Says}
 use Rattle.promises.specs.Demands.{Accepted}
 use Rattle.promises.proofs.Keeping.{gave-accepted}
@@ -119,6 +120,46 @@ record-found b i k output = go (splitOf (word (lifted b)) i k) (split-law (word 
           (fine (λ f. f ends (n .is), (λ m. omega (arith, l, m .2, ap (λ x. length (recordOf w i x)) (named-one n (m .1))), tt)) (gave-accepted refl) (record { ends = ends; named = n; is = refl }))
     ])
 
+-- what the marks say: t, with a line that is met exactly where they say no
+marks-found : (b : Book) (call : Call) (l : Line) (t : Bool) → lent call ≡ [] → ((r : Reply) → placed call r ≡ r) → (t ≡ false → l .Met)
+    → (t ≡ true → l .Met → ⊥) → ((r : Reply) → r ≡ reply (gave []) [] → Says b call r) → Outcome b call (l ∷ []) (reply (orRefused t (l .number)) [])
+unfolding First NoneMet
+marks-found b call l true e p f g s = fine (g refl, tt) (gave-accepted refl) (s _ refl)
+marks-found b call l false e p f g s = under (l .number) (inl (f refl, refl)) (sym (p _ ∙ ap (reply (refused (l .number))) e))
+
+pub no-mark : (o : Option ℕ) → isMark o ≡ false → (m : ℕ) → o ≡ some m → ⊥
+no-mark none e m q = clash cc
+no-mark (some x) e m q = clash cc
+
+pub a-mark : (o : Option ℕ) → isMark o ≡ true → ((m : ℕ) → o ≡ some m → ⊥) → ⊥
+a-mark none e f = clash cc
+a-mark (some x) e f = f x refl
+
+pub no-room : (marks : Marks) (name : ℕ) → roomFor marks name ≡ false → fifthName marks name .Met
+no-room marks name e = go (isMark (markAt marks name)) refl e
+  where
+    go : (t : Bool) → isMark (markAt marks name) ≡ t → (t || ltb (howMany marks) mostMarks) ≡ false → fifthName marks name .Met
+    go true q r = clash cc
+    go false q r = (no-mark (markAt marks name) q, ltb-false (howMany marks) mostMarks r)
+
+pub some-room : (marks : Marks) (name : ℕ) → roomFor marks name ≡ true → fifthName marks name .Met → ⊥
+some-room marks name e p = go (isMark (markAt marks name)) refl e
+  where
+    go : (t : Bool) → isMark (markAt marks name) ≡ t → (t || ltb (howMany marks) mostMarks) ≡ true → ⊥
+    go true q r = a-mark (markAt marks name) q (p .0)
+    go false q r = omega (arith, p .1, ltb-true (howMany marks) mostMarks r)
+
+pub mark-found : (b : Book) (name : ℕ) → Outcome b (mark name) (fifthName (b .marks) name ∷ []) (reply (orFifthName (b .marks) name) [])
+unfolding lent Says
+mark-found b name =
+    marks-found b (mark name) (fifthName (b .marks) name) (roomFor (b .marks) name) refl (λ r. refl) (no-room (b .marks) name) (some-room (b .marks) name) (λ r e. e)
+
+pub back-found : (b : Book) (name : ℕ) → Outcome b (back name) (noSuchMark (b .marks) name ∷ []) (reply (orNoMark (b .marks) name) [])
+unfolding lent Says
+back-found b name =
+    let o : Option ℕ = markAt (b .marks) name in
+    marks-found b (back name) (noSuchMark (b .marks) name) (isMark o) refl (λ r. refl) (no-mark o) (a-mark o) (λ r e. e)
+
 -- In the stored arrays
 
 -- a reply that refuses under these numbers only, with no place, and then keeps its list
@@ -141,6 +182,10 @@ no-split-only (some ends) list numbers f g = g ends
 pub no-ending-only : (o : Option NextShorter) → OnlyUnder [] (10 ∷ []) (reply (orNoEnding o) [])
 no-ending-only none = refused-only 10 [] (10 ∷ []) (List·Memᴰ·head refl)
 no-ending-only (some e) = gave-only _ [] [] (10 ∷ [])
+
+pub marks-only : (t : Bool) (x : ℕ) → OnlyUnder [] (x ∷ []) (reply (orRefused t x) [])
+marks-only true x = gave-only [] [] [] (x ∷ [])
+marks-only false x = refused-only x [] (x ∷ []) (List·Memᴰ·head refl)
 
 pub too-long-only : (bytes output : List ℕ) → OnlyUnder output (9 ∷ 5 ∷ []) (orTooLong bytes output)
 unfolding orTooLong

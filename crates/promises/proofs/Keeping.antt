@@ -11,21 +11,22 @@ use Rattle.words.specs.Cases.{clash, true-false}
 use Rattle.words.specs.Definitions.{mostPicks, mostSections, mostVisits, firstLetter, lastLetter}
 use Rattle.words.specs.Ranges.{between, between-true}
 use Rattle.layout.specs.Layout.{Every, none, Letter}
-use Rattle.layout.specs.Entries.{every-snoc}
+use Rattle.layout.specs.Entries.{every-snoc, every-take}
 use Rattle.promises.specs.declared.Draft.{Draft}
 use Rattle.promises.specs.declared.Started.{Started}
 use Rattle.promises.specs.declared.Fed.{Fed}
 use Rattle.promises.specs.declared.Loaded.{Loaded}
+use Rattle.promises.specs.declared.Marked.{Marked}
 use Rattle.promises.specs.Answers.{Said, gave, reply}
 use Rattle.promises.specs.Refusals.{startRefusal}
-use Rattle.promises.specs.Lifts.{fixedLifts}
-use Rattle.promises.specs.Book.{Book, book, Call, start, feed, load, ask, blank, fedRow, startTaken, feedTaken, loadTaken, write, writeAll, bookOf}
+use Rattle.promises.specs.Marks.{markAt, markLength}
+use Rattle.promises.specs.Book.{Book, startedBook, fedBook, loadedBook, markedBook, backBook, Call, start, feed, load, mark, back, ask, blank, startTaken, feedTaken, loadTaken, markTaken, backTaken, write, writeAll, bookOf}
 use Rattle.promises.specs.Replies.{replyTo, replies}
 use Rattle.promises.specs.BookLaws.{Case, taken, left, start-cases}
 use Rattle.promises.specs.Holds.{Holds}
 use Rattle.promises.specs.WritingLaws.{start-holds}
-use Rattle.promises.specs.Promises.{StartPromise, FeedPromise, LoadPromise}
-use Rattle.promises.specs.Runs.{Made, started, fed, loaded, asked, callOf, calls, replyOf, Meets, leaves, Run, last}
+use Rattle.promises.specs.Promises.{StartPromise, FeedPromise, LoadPromise, MarkPromise, BackPromise}
+use Rattle.promises.specs.Runs.{Made, started, fed, loaded, marked, returned, asked, callOf, calls, replyOf, Meets, leaves, Run, last}
 use Rattle.promises.specs.Demands.{Opened, Accepted, FeedAmong}
 
 -- Answers that are accepted
@@ -48,11 +49,13 @@ module _ {d : Draft} {b : Book} (h : Holds d b) where
   unfolding Meets leaves callOf write
   keep (started K r) p = go (start-cases K)
     where
-      go : Case (startTaken K) (startRefusal K) → Holds (r .state) (cond (startTaken K) (book K fixedLifts []) b)
+      go : Case (startTaken K) (startRefusal K) → Holds (r .state) (cond (startTaken K) (startedBook K) b)
       go (taken t z) = rw t (start-holds p z)
       go (left t z) = rw (t, p .refuses z) h
   keep (fed pick before r after) p = p .meaning b h .holds
   keep (loaded lifts r) p = p .meaning b h .holds
+  keep (marked name r) p = p .meaning b h .holds
+  keep (returned name r) p = p .meaning b h .holds
   keep (asked q r) p = h
 
   pub replied : (m : Made) → Meets d m → replyOf m ≡ replyTo b (callOf m)
@@ -60,6 +63,8 @@ module _ {d : Draft} {b : Book} (h : Holds d b) where
   replied (started K r) p = p .says b
   replied (fed pick before r after) p = p .meaning b h .replies
   replied (loaded lifts r) p = p .meaning b h .replies
+  replied (marked name r) p = p .meaning b h .replies
+  replied (returned name r) p = p .meaning b h .replies
   replied (asked q r) p = p .meaning b h
 
 -- The calls, one after the other
@@ -81,19 +86,29 @@ unfolding writeAll write
 letters-of b [] h = h
 letters-of b (start K ∷ cs) h = letters-of (write b (start K)) cs (go (startTaken K))
   where
-    go : (t : Bool) → Every Letter (cond t (book K fixedLifts []) b .row)
+    go : (t : Bool) → Every Letter (cond t (startedBook K) b .row)
     go true = none
     go false = h
 letters-of b (feed pick visits ∷ cs) h = letters-of (write b (feed pick visits)) cs (go (feedTaken b pick (length visits)) refl)
   where
-    go : (t : Bool) → feedTaken b pick (length visits) ≡ t → Every Letter (cond t (book (b .K) (b .lifts) (fedRow b pick)) b .row)
+    go : (t : Bool) → feedTaken b pick (length visits) ≡ t → Every Letter (cond t (fedBook b pick) b .row)
     go true e = every-snoc h (between-true firstLetter lastLetter pick
         (and-eq-true-iff (between firstLetter lastLetter pick) (leb mostVisits (length visits) && ltb (length (b .row)) mostPicks) .0 e .0))
     go false e = h
 letters-of b (load lifts ∷ cs) h = letters-of (write b (load lifts)) cs (go (loadTaken b lifts))
   where
-    go : (t : Bool) → Every Letter (cond t (book (b .K) lifts (b .row)) b .row)
+    go : (t : Bool) → Every Letter (cond t (loadedBook b lifts) b .row)
     go true = h
+    go false = h
+letters-of b (mark name ∷ cs) h = letters-of (write b (mark name)) cs (go (markTaken b name))
+  where
+    go : (t : Bool) → Every Letter (cond t (markedBook b name) b .row)
+    go true = h
+    go false = h
+letters-of b (back name ∷ cs) h = letters-of (write b (back name)) cs (go (backTaken b name))
+  where
+    go : (t : Bool) → Every Letter (cond t (backBook b name) b .row)
+    go true = every-take (markLength (markAt (b .marks) name)) h
     go false = h
 letters-of b (ask q ∷ cs) h = letters-of b cs h
 
@@ -180,3 +195,19 @@ module _ {d : Draft} {K : ℕ} {r : Started} {ms : List Made} (o : Opened d K r 
     pub load-met : LoadPromise (last d xs) lifts x
     unfolding Meets
     load-met = met-at xs ys (loaded lifts x) loaded-not f .1
+
+  marked-not : {name : ℕ} {x : Marked} → marked name x ≡ started K r → ⊥
+  marked-not {name} {x} e = clash cc
+
+  pub mark-met : (xs ys : List Made) (name : ℕ) (x : Marked) → started K r ∷ ms ≡ xs ++ marked name x ∷ ys
+      → Holds (last d xs) (bookOf (calls xs)) × MarkPromise (last d xs) name x
+  unfolding Meets
+  mark-met xs ys name x f = met-at xs ys (marked name x) marked-not f
+
+  returned-not : {name : ℕ} {x : Marked} → returned name x ≡ started K r → ⊥
+  returned-not {name} {x} e = clash cc
+
+  pub back-met : (xs ys : List Made) (name : ℕ) (x : Marked) → started K r ∷ ms ≡ xs ++ returned name x ∷ ys
+      → Holds (last d xs) (bookOf (calls xs)) × BackPromise (last d xs) name x
+  unfolding Meets
+  back-met xs ys name x f = met-at xs ys (returned name x) returned-not f

@@ -11,10 +11,12 @@ pub mod Demand2
 pub mod Demand3
 pub mod Transcript
 pub mod Stored
+pub mod Marking
 pub mod Drafts
 pub mod Unfolding
 pub mod ReadBack
 pub mod ReadExamples
 pub mod LiftExamples
+pub mod MarkExamples
 pub mod LikeWords
 pub mod Alike

@@ -11,6 +11,7 @@ use Rattle.text.specs.Definitions.{decimal, bytes}
 use Rattle.layout.specs.Record.{recordOf}
 use Rattle.promises.specs.Answers.{gave, refused, refusedAt, reply}
 use Rattle.promises.specs.Lifts.{fixedLifts}
+use Rattle.promises.specs.Marks.{noMarks}
 use Rattle.promises.specs.Book.{Book, book, load, ask, mask, fold, lift}
 use Rattle.promises.specs.Replies.{replyTo, unfoldReply}
 
@@ -19,7 +20,7 @@ table = 3 ∷ 3 ∷ drop 2 fixedLifts
 
 -- K = 8, these letters under these lifts
 abbrev pub with : (lifts : List ℕ) → String → Book
-with lifts t = book mostSections lifts (bytes t)
+with lifts t = book mostSections lifts (bytes t) noMarks
 
 -- ACB is one section or three by these lifts; by the fixed ones, which are distinct, it is three alone
 pub mirrored-by-lifts : replyTo (with table "ACB") (ask (mask 3)) ≡ reply (gave (5 ∷ [])) []

@@ -11,7 +11,7 @@ use Rattle.words.specs.Cases.{clash, true-false}
 use Rattle.promises.specs.Answers.{Said, refused, refusedAt, Under, reply}
 use Rattle.promises.specs.Lifts.{firstZero, FirstZero}
 use Rattle.promises.specs.LiftLaws.{first-is}
-use Rattle.promises.specs.Book.{Book, Call, start, feed, load, ask}
+use Rattle.promises.specs.Book.{Book, Call, start, feed, load, mark, back, ask}
 use Rattle.promises.specs.Replies.{placed, foundFor}
 use Rattle.promises.specs.Listed.{First, listed}
 use Rattle.promises.specs.Demands.{PlaceOf}
@@ -49,6 +49,8 @@ pub placed-at : (call : Call) (y : ℕ) (list : List ℕ) → ((lifts : List ℕ
     → (x place : ℕ) → (placed call (reply (refused y) list) .said ≡ refusedAt x place) ↔ ((x ≡ y) × PlaceOf call x place)
 placed-at (start K) y list f x place = (λ e. absurd (no-place e), λ p. absurd (p .1))
 placed-at (feed pick visits) y list f x place = (λ e. absurd (no-place e), λ p. absurd (p .1))
+placed-at (mark name) y list f x place = (λ e. absurd (no-place e), λ p. absurd (p .1))
+placed-at (back name) y list f x place = (λ e. absurd (no-place e), λ p. absurd (p .1))
 placed-at (ask q) y list f x place = (λ e. absurd (no-place e), λ p. absurd (p .1))
 placed-at (load lifts) y list f x place = go (eqb y 15) refl
   where
@@ -70,4 +72,6 @@ unfolding foundFor
 found-plain b (start K) = refl
 found-plain b (feed pick visits) = refl
 found-plain b (load lifts) = refl
+found-plain b (mark name) = refl
+found-plain b (back name) = refl
 found-plain b (ask q) = refl

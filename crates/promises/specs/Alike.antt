@@ -18,7 +18,7 @@ Alike lifts other = (x y : ℕ) → Letter x → Letter y → (liftIn lifts x �
 
 -- the book with another table
 abbrev pub withTable : Book → (lifts : List ℕ) → Book
-withTable b lifts = book (b .K) lifts (b .row)
+withTable b lifts = book (b .K) lifts (b .row) (b .marks)
 
 -- it is not a lift that is asked for
 abbrev pub NoLift : Call → Type 0

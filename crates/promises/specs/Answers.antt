@@ -10,6 +10,8 @@ use Rattle.promises.specs.declared.FeedAnswer.{FeedAnswer}
 use Rattle.promises.specs.declared.FeedAnswer.the-variants.{Taken, Refused as FeedRefused}
 use Rattle.promises.specs.declared.LoadAnswer.{LoadAnswer}
 use Rattle.promises.specs.declared.LoadAnswer.the-variants.{InForce, Refused as LoadRefused, RefusedAt as LoadRefusedAt}
+use Rattle.promises.specs.declared.MarkAnswer.{MarkAnswer}
+use Rattle.promises.specs.declared.MarkAnswer.the-variants.{Done, Refused as MarkRefused}
 use Rattle.promises.specs.declared.MaskAnswer.{MaskAnswer}
 use Rattle.promises.specs.declared.MaskAnswer.the-variants.{Mask, Refused as MaskRefused}
 use Rattle.promises.specs.declared.RadiusAnswer.{RadiusAnswer}
@@ -64,6 +66,10 @@ abbrev pub loadSays : LoadAnswer → Said
 loadSays InForce = gave []
 loadSays (LoadRefused number) = refused number
 loadSays (LoadRefusedAt number place) = refusedAt number place
+
+abbrev pub markSays : MarkAnswer → Said
+markSays Done = gave []
+markSays (MarkRefused number) = refused number
 
 abbrev pub maskSays : MaskAnswer → Said
 maskSays (Mask mask) = gave (mask ∷ [])

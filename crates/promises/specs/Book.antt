@@ -3,10 +3,11 @@ use mathlib.Core.Bool.{Bool, cond, _&&_}
 use mathlib.Core.List.{List, [], _∷_, _++_}
 use Prim.Native.Nat.{ℕ}
 use lib.Dec.{eqb, leb, ltb}
-use lib.ListN.{length}
+use lib.ListN.{length, take}
 use Rattle.words.specs.Definitions.{mostPicks, mostSections, mostVisits, firstLetter, lastLetter}
 use Rattle.words.specs.Ranges.{between}
 use Rattle.promises.specs.Lifts.{fixedLifts, tableSize, liftedBy, noneZero}
+use Rattle.promises.specs.Marks.{Marks, noMarks, markAt, isMark, markLength, roomFor, setMark, dropLonger}
 
 -- A query: a call that only reads the state, with its arguments; a list is lent as it stands. Places are in whole picks, centres in half
 -- picks.
@@ -24,6 +25,8 @@ pub data Call : Type 0 where
   start : (K : ℕ) → Call
   feed : (pick : ℕ) (visits : List ℕ) → Call
   load : (lifts : List ℕ) → Call
+  mark : (name : ℕ) → Call
+  back : (name : ℕ) → Call
   ask : (q : Query) → Call
 
 -- the list that is lent to be filled, as it was lent; [] where none is
@@ -31,6 +34,8 @@ unfoldable pub lent : Call → List ℕ
 lent (start K) = []
 lent (feed pick visits) = visits
 lent (load lifts) = []
+lent (mark name) = []
+lent (back name) = []
 lent (ask (split i k ends)) = ends
 lent (ask longest) = []
 lent (ask (mask i)) = []
@@ -39,14 +44,15 @@ lent (ask (next c)) = []
 lent (ask (fold i k output)) = output
 lent (ask (lift letter)) = []
 
--- "It holds K and a row of letters"; "the plain book holds 26 lifts too"
+-- "It holds K and a row of letters"; "the plain book holds 26 lifts too"; "the plain book keeps marks by these same rules"
 pub record Book : Type 0 where
   pub K : ℕ
   pub lifts : List ℕ
   pub row : List ℕ
+  pub marks : Marks
 
-abbrev pub book : (K : ℕ) (lifts row : List ℕ) → Book
-book K lifts row = record { K = K; lifts = lifts; row = row }
+abbrev pub book : (K : ℕ) (lifts row : List ℕ) → Marks → Book
+book K lifts row marks = record { K = K; lifts = lifts; row = row; marks = marks }
 
 -- what is read of the row: "two picks are the same when their lifts are equal"
 abbrev pub lifted : Book → List ℕ
@@ -64,6 +70,9 @@ feedTaken b pick entries = between firstLetter lastLetter pick && (leb mostVisit
 abbrev pub fedRow : Book → (pick : ℕ) → List ℕ
 fedRow b pick = b .row ++ pick ∷ []
 
+abbrev pub fedBook : Book → (pick : ℕ) → Book
+fedBook b pick = book (b .K) (b .lifts) (fedRow b pick) (b .marks)
+
 -- "an accepted feed's endings are read by the lifts the book held at that feed"
 abbrev pub fedLifted : Book → (pick : ℕ) → List ℕ
 fedLifted b pick = liftedBy (b .lifts) (fedRow b pick)
@@ -72,12 +81,40 @@ fedLifted b pick = liftedBy (b .lifts) (fedRow b pick)
 abbrev pub loadTaken : Book → (lifts : List ℕ) → Bool
 loadTaken b lifts = eqb (length lifts) tableSize && (noneZero lifts && eqb (length (b .row)) 0)
 
+abbrev pub loadedBook : Book → (lifts : List ℕ) → Book
+loadedBook b lifts = book (b .K) lifts (b .row) (b .marks)
+
+-- a name A to Z that is a mark already, or not a fifth
+abbrev pub markTaken : Book → (name : ℕ) → Bool
+markTaken b name = between firstLetter lastLetter name && roomFor (b .marks) name
+
+-- "with the draft's length at that moment"
+abbrev pub markedBook : Book → (name : ℕ) → Book
+markedBook b name = book (b .K) (b .lifts) (b .row) (setMark (b .marks) name (length (b .row)))
+
+-- a name A to Z that is a mark
+abbrev pub backTaken : Book → (name : ℕ) → Bool
+backTaken b name = between firstLetter lastLetter name && isMark (markAt (b .marks) name)
+
+-- "going back cutting its row to the mark's length", m, "and drops marks of greater length"
+abbrev pub cutBook : Book → (m : ℕ) → Book
+cutBook b m = book (b .K) (b .lifts) (take m (b .row)) (dropLonger m (b .marks))
+
+abbrev pub backBook : Book → (name : ℕ) → Book
+backBook b name = cutBook b (markLength (markAt (b .marks) name))
+
+-- "Start drops all marks"
+abbrev pub startedBook : (K : ℕ) → Book
+startedBook K = book K fixedLifts [] noMarks
+
 -- "writes K and clears the row", and takes "the fixed ones at each accepted start"; "adds its pick at the end"; takes the lifts of a load;
--- "Every other call leaves the book alone."
+-- sets a mark; goes back to one; "Every other call leaves the book alone."
 unfoldable pub write : Book → Call → Book
-write b (start K) = cond (startTaken K) (book K fixedLifts []) b
-write b (feed pick visits) = cond (feedTaken b pick (length visits)) (book (b .K) (b .lifts) (fedRow b pick)) b
-write b (load lifts) = cond (loadTaken b lifts) (book (b .K) lifts (b .row)) b
+write b (start K) = cond (startTaken K) (startedBook K) b
+write b (feed pick visits) = cond (feedTaken b pick (length visits)) (fedBook b pick) b
+write b (load lifts) = cond (loadTaken b lifts) (loadedBook b lifts) b
+write b (mark name) = cond (markTaken b name) (markedBook b name) b
+write b (back name) = cond (backTaken b name) (backBook b name) b
 write b (ask q) = b
 
 unfoldable pub writeAll : Book → List Call → Book
@@ -85,9 +122,9 @@ unfolding write
 writeAll b [] = b
 writeAll b (c ∷ cs) = writeAll (write b c) cs
 
--- before the first call no K and no letter stands in the book
+-- before the first call no K, no letter and no mark stands in the book
 abbrev pub blank : Book
-blank = book 0 fixedLifts []
+blank = startedBook 0
 
 abbrev pub bookOf : List Call → Book
 bookOf cs = writeAll blank cs

@@ -11,9 +11,9 @@ use borrow.Author.Tests.{le-leb, eqb-true}
 use Rattle.words.specs.Definitions.{mostPicks, mostSections, mostVisits, firstLetter, lastLetter}
 use Rattle.words.specs.Ranges.{between}
 use Rattle.promises.specs.Answers.{refused, refusedAt, Under, Reply, reply}
-use Rattle.promises.specs.Refusals.{test, line7, startRefusal, feedRefusal, loadRefusal}
+use Rattle.promises.specs.Refusals.{test, line7, startRefusal, feedRefusal, loadRefusal, letterRefusal}
 use Rattle.promises.specs.Lifts.{tableSize, noneZero, firstZero}
-use Rattle.promises.specs.Book.{Book, Call, start, feed, load, ask, startTaken, feedTaken, loadTaken}
+use Rattle.promises.specs.Book.{Book, Call, start, feed, load, mark, back, ask, startTaken, feedTaken, loadTaken}
 use Rattle.promises.specs.Replies.{unless, placed}
 
 -- Whether the book takes a call, and the call's number
@@ -22,9 +22,9 @@ pub data Case (t : Bool) (number : ℕ) : Type 0 where
   taken : t ≡ true → number ≡ 0 → Case t number
   left : t ≡ false → number ≢ 0 → Case t number
 
-start-case : (t : Bool) → Case t (test t 1 0)
-start-case true = taken refl refl
-start-case false = left refl (λ e. omega arith)
+one-case : (t : Bool) (x : ℕ) → Case t (test t (suc x) 0)
+one-case true x = taken refl refl
+one-case false x = left refl (λ e. omega arith)
 
 three-case : (a b c : Bool) (x y z : ℕ) → Case (a && (b && c)) (test a (suc x) (test b (suc y) (test c (suc z) 0)))
 three-case true true true x y z = taken refl refl
@@ -34,7 +34,7 @@ three-case false b c x y z = left refl (λ e. omega arith)
 
 pub start-cases : (K : ℕ) → Case (startTaken K) (startRefusal K)
 unfolding startRefusal
-start-cases K = start-case (between 1 mostSections K)
+start-cases K = one-case (between 1 mostSections K) 0
 
 -- a state that passes test 7
 pub passes7 : (n K after : ℕ) → n ≤ mostPicks → 1 ≤ K → K ≤ mostSections → line7 n K after ≡ after
@@ -53,6 +53,12 @@ unfolding loadRefusal
 load-cases b lifts x y z =
     rw (passes7 (length (b .row)) (b .K) _ x y z)
     (three-case (eqb (length lifts) tableSize) (noneZero lifts) (eqb (length (b .row)) 0) 13 14 15)
+
+-- of a mark and of going back: whether the name is A to Z
+pub letter-cases : (b : Book) (name : ℕ) → length (b .row) ≤ mostPicks → 1 ≤ b .K → b .K ≤ mostSections
+    → Case (between firstLetter lastLetter name) (letterRefusal (length (b .row)) (b .K) name)
+unfolding letterRefusal
+letter-cases b name x y z = rw (passes7 (length (b .row)) (b .K) _ x y z) (one-case (between firstLetter lastLetter name) 1)
 
 pub none-left : (list : List ℕ) → length list ≡ 0 → list ≡ []
 none-left [] e = refl
@@ -92,6 +98,8 @@ pub placed-under : (call : Call) (number : ℕ) (list : List ℕ) → Under (pla
 placed-under (start K) number list = inl refl
 placed-under (feed pick visits) number list = inl refl
 placed-under (load lifts) number list = at-zero number (firstZero lifts) (eqb number 15)
+placed-under (mark name) number list = inl refl
+placed-under (back name) number list = inl refl
 placed-under (ask q) number list = inl refl
 
 -- and so does the list
@@ -99,4 +107,6 @@ pub placed-list : (call : Call) (r : Reply) → placed call r .list ≡ r .list
 placed-list (start K) r = refl
 placed-list (feed pick visits) r = refl
 placed-list (load lifts) r = refl
+placed-list (mark name) r = refl
+placed-list (back name) r = refl
 placed-list (ask q) r = refl

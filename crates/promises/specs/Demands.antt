@@ -12,15 +12,16 @@ use Rattle.promises.specs.declared.Draft.{Draft}
 use Rattle.promises.specs.declared.Started.{Started}
 use Rattle.promises.specs.declared.Fed.{Fed}
 use Rattle.promises.specs.declared.Loaded.{Loaded}
-use Rattle.promises.specs.Answers.{Said, gave, refused, refusedAt, Under, Reply, reply, filled, startSays, feedSays, loadSays}
+use Rattle.promises.specs.declared.Marked.{Marked}
+use Rattle.promises.specs.Answers.{Said, gave, refused, refusedAt, Under, Reply, reply, filled, startSays, feedSays, loadSays, markSays}
 use Rattle.promises.specs.Lifts.{liftIn, FirstZero}
-use Rattle.promises.specs.Book.{Book, Call, start, feed, load, ask, split, longest, mask, next, fold, lift, blank, lent, lifted, fedLifted, startTaken, feedTaken, loadTaken, bookOf}
-use Rattle.promises.specs.Listed.{First, NoneMet, recordLonger, noSplit, noEnding, listed, sought, lines, showLines}
+use Rattle.promises.specs.Book.{Book, Call, start, feed, load, mark, back, ask, split, longest, mask, next, fold, lift, blank, lent, lifted, fedLifted, startTaken, feedTaken, loadTaken, markTaken, backTaken, bookOf}
+use Rattle.promises.specs.Listed.{First, NoneMet, recordLonger, noSplit, noEnding, noSuchMark, fifthName, listed, sought, lines, showLines}
 use Rattle.promises.specs.Says.{Yes, Says, PartOf}
 use Rattle.promises.specs.State.{stateOfBook}
 use Rattle.promises.specs.Promises.{Reads, ShowPromise, ShowNumberPromise}
 use Rattle.promises.specs.Replies.{replies}
-use Rattle.promises.specs.Runs.{Made, started, fed, loaded, callOf, calls, replyOf, Meets, leaves, Run, last}
+use Rattle.promises.specs.Runs.{Made, started, fed, loaded, marked, returned, callOf, calls, replyOf, Meets, leaves, Run, last}
 
 -- A run that opens with an accepted start on the stored state d
 pub record Opened (d : Draft) (K : ℕ) (r : Started) (ms : List Made) : Type 0 where
@@ -50,20 +51,23 @@ pub record FeedAmong (ms xs : List Made) (pick : ℕ) (before : List ℕ) (r : F
 
 -- Demand 1
 
--- the numbers of the lines that hang on the picks: 9 of a split, 10 of the next shorter ending, 9 and 5 of a record
+-- the numbers of the lines that hang on the picks and the marks: 9 of a split, 10 of the next shorter ending, 9 and 5 of a record, 18 of
+-- a mark, 17 of going back
 abbrev pub soughtNumbers : Call → List ℕ
-soughtNumbers call = map (λ l. l .number) (sought [] [] call)
+soughtNumbers call = map (λ l. l .number) (sought blank call)
 
 -- "a place coming beside the number where one is named": of the numbers of a call on a state 15 has one, that of the first lift of 0
 abbrev pub PlaceOf : Call → (number place : ℕ) → Type 0
 PlaceOf (start K) number place = ⊥
 PlaceOf (feed pick visits) number place = ⊥
 PlaceOf (load lifts) number place = (number ≡ 15) × FirstZero lifts place
+PlaceOf (mark name) number place = ⊥
+PlaceOf (back name) number place = ⊥
 PlaceOf (ask q) number place = ⊥
 
 -- for one call, on any state whatever
 pub record Demand1 (d : Draft) (m : Made) : Type 0 where
-  -- of the lines that need no picks, 1 to 4, 7, 8 and 13 to 16, the first that the call meets gives the number: "there 1 to 4 and 8 still
+  -- of the lines that need no picks and no marks, 1 to 4, 7, 8 and 13 to 16, the first that the call meets gives the number: "there 1 to 4 and 8 still
   -- hold", and document 02's numbers for bad input "hold as 1 to 4 do"
   pub refuses : (number : ℕ) → First (listed (d .n) (d .k) (callOf m)) number → Under (replyOf m .said) number
   -- with the place that belongs to it, and with none where none does
@@ -75,11 +79,11 @@ pub record Demand1 (d : Draft) (m : Made) : Type 0 where
   -- "A refusal returns its number only; state and lent buffers keep every byte", whatever the number
   pub keeps : (number : ℕ) → Under (replyOf m .said) number → (replyOf m .list ≡ lent (callOf m)) × (leaves d m ≡ d)
 
--- the lines that need no picks are not met
+-- the lines that need no picks and no marks are not met
 abbrev pub NoneListed : Book → Call → Type 0
 NoneListed b call = NoneMet (listed (length (b .row)) (b .K) call)
 
--- 9, 10 and 5, each by itself: exactly where no line before it is met, and it is
+-- 9, 10, 5, 18 and 17, each by itself: exactly where no line before it is met, and it is
 pub record Late (b : Book) (call : Call) (r : Reply) : Type 0 where
   pub split9 : (i k : ℕ) (ends : List ℕ) → call ≡ ask (split i k ends)
       → (r .said ≡ refused 9) ↔ (NoneListed b call × noSplit (lifted b) i k .Met)
@@ -88,10 +92,12 @@ pub record Late (b : Book) (call : Call) (r : Reply) : Type 0 where
       → (r .said ≡ refused 9) ↔ (NoneListed b call × noSplit (lifted b) i k .Met)
   pub record5 : (i k : ℕ) (output : List ℕ) → call ≡ ask (fold i k output)
       → (r .said ≡ refused 5) ↔ (NoneListed b call × recordLonger (b .row) (lifted b) i k output .Met)
+  pub mark18 : (name : ℕ) → call ≡ mark name → (r .said ≡ refused 18) ↔ (NoneListed b call × fifthName (b .marks) name .Met)
+  pub back17 : (name : ℕ) → call ≡ back name → (r .said ≡ refused 17) ↔ (NoneListed b call × noSuchMark (b .marks) name .Met)
 
 -- for a call of a run, b being the book before it
 pub record Answered (b : Book) (call : Call) (r : Reply) : Type 0 where
-  -- a call is refused under a number exactly where that is the first line that it meets, 9, 10 and 5 among them
+  -- a call is refused under a number exactly where that is the first line that it meets, 9, 10, 5, 17 and 18 among them
   pub refuses : (number : ℕ) → Under (r .said) number ↔ First (lines b call) number
   pub places : (number place : ℕ) → (r .said ≡ refusedAt number place) ↔ (First (lines b call) number × PlaceOf call number place)
   pub keeps : (number : ℕ) → Under (r .said) number → r .list ≡ lent call
@@ -200,6 +206,11 @@ pub record Demand3 (d : Draft) (ms : List Made) : Type 0 where
   -- and so is a load
   pub loads : (xs ys : List Made) (lifts : List ℕ) (r : Loaded) → ms ≡ xs ++ loaded lifts r ∷ ys
       → Accepted (loadSays (r .answer)) ↔ (loadTaken (bookOf (calls xs)) lifts ≡ true)
+  -- "Both mark calls join the runs of demand 3"
+  pub marks : (xs ys : List Made) (name : ℕ) (r : Marked) → ms ≡ xs ++ marked name r ∷ ys
+      → Accepted (markSays (r .answer)) ↔ (markTaken (bookOf (calls xs)) name ≡ true)
+  pub backs : (xs ys : List Made) (name : ℕ) (r : Marked) → ms ≡ xs ++ returned name r ∷ ys
+      → Accepted (markSays (r .answer)) ↔ (backTaken (bookOf (calls xs)) name ≡ true)
   -- "no accepted feed makes that number smaller"
   pub onward : (xs : List Made) (pick : ℕ) (before : List ℕ) (r : Fed) (after : List ℕ) → FeedAmong ms xs pick before r after
       → Accepted (feedSays (r .answer))
@@ -243,8 +254,8 @@ Demand3Holds = OfEveryRun Demand3
 abbrev pub WordsHold : Type 0
 WordsHold = OfEveryRun WordsRight
 
--- the state is a function of the book: the empty draft under the book's lifts with the row's letters fed one after another. Whatever was
--- stored before, refused or asked between, or lent as a visit list counts for nothing
+-- the state is a function of the book: the empty draft under the book's lifts and with its marks, the row's letters fed one after another.
+-- Whatever was stored before, refused, asked or abandoned between, or lent as a visit list counts for nothing
 abbrev pub StateOfBook : Type 0
 StateOfBook = OfEveryRun (λ d ms. last d ms ≡ stateOfBook (bookOf (calls ms)))
 

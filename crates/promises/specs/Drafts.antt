@@ -10,6 +10,7 @@ use Rattle.words.specs.Definitions.{mostSections, mostVisits}
 use Rattle.text.specs.Definitions.{bytes}
 use Rattle.promises.specs.Answers.{gave, refused, Reply, reply, filled}
 use Rattle.promises.specs.Lifts.{fixedLifts}
+use Rattle.promises.specs.Marks.{noMarks}
 use Rattle.promises.specs.Book as calls
 use Rattle.promises.specs.Book.{Book, book, Call}
 use Rattle.promises.specs.Replies.{fedMask, replyTo}
@@ -64,11 +65,11 @@ table =
 
 -- the visits are those of the last pick: the book before it, and the pick
 abbrev pub bookFor : List ℕ → Question → Book
-bookFor u mask = book mostSections fixedLifts u
-bookFor u visits = book mostSections fixedLifts (take (length u - 1) u)
-bookFor u moved = book mostSections fixedLifts u
-bookFor u (splitIn k) = book mostSections fixedLifts u
-bookFor u (radiusAt c) = book mostSections fixedLifts u
+bookFor u mask = book mostSections fixedLifts u noMarks
+bookFor u visits = book mostSections fixedLifts (take (length u - 1) u) noMarks
+bookFor u moved = book mostSections fixedLifts u noMarks
+bookFor u (splitIn k) = book mostSections fixedLifts u noMarks
+bookFor u (radiusAt c) = book mostSections fixedLifts u noMarks
 
 abbrev pub lastPick : List ℕ → ℕ
 lastPick u = getD u (length u - 1) 0

@@ -6,6 +6,7 @@ use Rattle.words.specs.Definitions.{mostPicks, mostSections, word}
 use Rattle.words.specs.Prefixes.{Agree}
 use Rattle.models.specs.Core.{Holds as ArraysHold}
 use Rattle.promises.specs.declared.Draft.{Draft}
+use Rattle.promises.specs.Marks.{entries}
 use Rattle.promises.specs.Book.{Book, lifted}
 use Rattle.promises.specs.State.{arraysOf}
 
@@ -15,6 +16,7 @@ pub record Holds (d : Draft) (b : Book) : Type 0 where
   pub sections : d .k ≡ b .K
   pub picks : d .n ≡ length (b .row)
   pub lifts : d .lifts ≡ b .lifts
+  pub marks : d .marks ≡ entries (b .marks)
   pub room : length (d .letters) ≡ mostPicks
   pub letters : Agree (word (d .letters)) (word (b .row)) (length (b .row))
   -- by the lifts: the codes, every row word and every gathered word by its definition, the longest ending's centre, the iterator's lists

@@ -2,6 +2,7 @@
 pub mod Answers
 pub mod Refusals
 pub mod Lifts
+pub mod Marks
 pub mod Book
 pub mod Replies
 pub mod Listed
@@ -13,14 +14,18 @@ pub mod Lent
 pub mod Drafts
 pub mod Runs
 pub mod Demands
+pub mod Marking
 pub mod Unread
 pub mod ReadBack
 pub mod Alike
 -- laws
 pub mod LiftLaws
+pub mod MarkLaws
 pub mod RefusalLaws
 pub mod BookLaws
 pub mod WritingLaws
+pub mod BackLaws
+pub mod MarkingLaws
 pub mod ReadingLaws
 pub mod LentLaws
 pub mod ShowLaws

@@ -1,16 +1,18 @@
 -- Document 01's two lists of refusals as propositions, with document 02's numbers: each line under its words, and for each call the lines
 -- that it can meet, in the order in which they are tested: 7 first, then the input numbers in rising order but for 5, with 13 in the place
--- of 3, then 8, 9 or 10, then 5; a load's are 7, 14, 15, 16.
+-- of 3, then 8, 9 or 10, then 5; a load's are 7, 14, 15, 16; 17 and 18 are tested where 8 is.
 use mathlib.Core.Path.{_≡_}
 use mathlib.Core.Logic.{_≢_, _⊎_}
 use mathlib.Core.List.{List, [], _∷_, _++_}
-use Prim.Native.Nat.{ℕ, _+_, _*_, _<_}
+use mathlib.Core.Option.{some}
+use Prim.Native.Nat.{ℕ, _+_, _*_, _≤_, _<_}
 use lib.ListN.{length}
 use Rattle.words.specs.Definitions.{mostPicks, mostSections, mostVisits, firstLetter, lastLetter, word, centre, Ending, Split, Named, Rising}
 use Rattle.layout.specs.Record.{Folded, recordOf}
 use Rattle.layout.specs.Layout.{Laid, Layout, total}
 use Rattle.promises.specs.Lifts.{tableSize, FirstZero}
-use Rattle.promises.specs.Book.{Book, Call, start, feed, load, ask, split, longest, mask, radius, next, fold, lift, lifted}
+use Rattle.promises.specs.Marks.{Marks, markAt, mostMarks, howMany}
+use Rattle.promises.specs.Book.{Book, Call, start, feed, load, mark, back, ask, split, longest, mask, radius, next, fold, lift, lifted}
 
 -- a line's number, and what it is to meet it
 pub record Line : Type 1 where
@@ -40,7 +42,7 @@ Outside low high x = (x < low) ⊎ (high < x)
 abbrev pub outsideSections : (most k : ℕ) → Line
 outsideSections most k = line 1 (Outside 1 most k)
 
--- 2. "Pick not A to Z, in feeding or in looking up a lift"
+-- 2. "Pick not A to Z, in feeding or in looking up a lift"; document 02, "A name outside A to Z is 2"
 abbrev pub noLetter : (pick : ℕ) → Line
 noLetter pick = line 2 (Outside firstLetter lastLetter pick)
 
@@ -112,6 +114,14 @@ noEnding u c = line 10 ((len : ℕ) → 0 < len → Ending (word u) (length u) l
 abbrev pub begun : (n : ℕ) → Line
 begun n = line 16 (n ≢ 0)
 
+-- 17. document 02, "no such mark"
+abbrev pub noSuchMark : Marks → (name : ℕ) → Line
+noSuchMark marks name = line 17 ((m : ℕ) → markAt marks name ≡ some m → ⊥)
+
+-- 18. document 02, "a fifth name": it is no mark, and four others are
+abbrev pub fifthName : Marks → (name : ℕ) → Line
+fifthName marks name = line 18 (((m : ℕ) → markAt marks name ≡ some m → ⊥) × (mostMarks ≤ howMany marks))
+
 -- The lines that a call can meet
 
 -- by its arguments and the stored n and K: 7, 1, 2, 3, 13, 4, 8; 7, 14, 15, 16. "Start doesn't look at it": at 7
@@ -119,6 +129,8 @@ unfoldable pub listed : (n K : ℕ) → Call → List Line
 listed n K (start k) = outsideSections mostSections k ∷ []
 listed n K (feed pick visits) = noDraft n K ∷ noLetter pick ∷ shortVisits (length visits) ∷ full n ∷ []
 listed n K (load lifts) = noDraft n K ∷ noTable (length lifts) ∷ zeroLift lifts ∷ begun n ∷ []
+listed n K (mark name) = noDraft n K ∷ noLetter name ∷ []
+listed n K (back name) = noDraft n K ∷ noLetter name ∷ []
 listed n K (ask (split i k ends)) = noDraft n K ∷ outsideSections K k ∷ shortEnds k (length ends) ∷ prefixAbove n i ∷ []
 listed n K (ask longest) = noDraft n K ∷ []
 listed n K (ask (mask i)) = noDraft n K ∷ prefixAbove n i ∷ []
@@ -127,22 +139,24 @@ listed n K (ask (next c)) = noDraft n K ∷ centreOutside n c ∷ []
 listed n K (ask (fold i k output)) = noDraft n K ∷ outsideSections K k ∷ prefixAbove n i ∷ []
 listed n K (ask (lift letter)) = noDraft n K ∷ noLetter letter ∷ []
 
--- and by the picks, row being their letters and u their lifts: 9, 10, 5
-unfoldable pub sought : (row u : List ℕ) → Call → List Line
-sought row u (start k) = []
-sought row u (feed pick visits) = []
-sought row u (load lifts) = []
-sought row u (ask (split i k ends)) = noSplit u i k ∷ []
-sought row u (ask longest) = []
-sought row u (ask (mask i)) = []
-sought row u (ask (radius c)) = []
-sought row u (ask (next c)) = noEnding u c ∷ []
-sought row u (ask (fold i k output)) = noSplit u i k ∷ recordLonger row u i k output ∷ []
-sought row u (ask (lift letter)) = []
+-- and by the picks, which are read by their lifts, and by the marks: 9, 10, 5, 17, 18
+unfoldable pub sought : Book → Call → List Line
+sought b (start k) = []
+sought b (feed pick visits) = []
+sought b (load lifts) = []
+sought b (mark name) = fifthName (b .marks) name ∷ []
+sought b (back name) = noSuchMark (b .marks) name ∷ []
+sought b (ask (split i k ends)) = noSplit (lifted b) i k ∷ []
+sought b (ask longest) = []
+sought b (ask (mask i)) = []
+sought b (ask (radius c)) = []
+sought b (ask (next c)) = noEnding (lifted b) c ∷ []
+sought b (ask (fold i k output)) = noSplit (lifted b) i k ∷ recordLonger (b .row) (lifted b) i k output ∷ []
+sought b (ask (lift letter)) = []
 
 -- all of them, on a draft with what stands in the book
 abbrev pub lines : Book → Call → List Line
-lines b call = listed (length (b .row)) (b .K) call ++ sought (b .row) (lifted b) call
+lines b call = listed (length (b .row)) (b .K) call ++ sought b call
 
 -- show and unfold are given no state
 abbrev pub showLines : (letters ends : List ℕ) (s : ℕ) → List Line

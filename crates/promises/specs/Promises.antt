@@ -18,21 +18,29 @@ use Rattle.promises.specs.declared.Draft.{Draft}
 use Rattle.promises.specs.declared.Started.{Started}
 use Rattle.promises.specs.declared.Fed.{Fed}
 use Rattle.promises.specs.declared.Loaded.{Loaded}
+use Rattle.promises.specs.declared.Marked.{Marked}
 use Rattle.promises.specs.declared.UnfoldAnswer.{UnfoldAnswer}
-use Rattle.promises.specs.Answers.{Said, gave, refused, Reply, reply, startSays, feedSays, loadSays, unfoldSays}
+use Rattle.promises.specs.Answers.{Said, gave, refused, Reply, reply, startSays, feedSays, loadSays, markSays, unfoldSays}
 use Rattle.promises.specs.Refusals.{startRefusal, feedRefusal, loadRefusal, showRefusal}
 use Rattle.promises.specs.Lifts.{liftIn}
-use Rattle.promises.specs.Book.{Book, write, Query, start, feed, load, ask, split, longest, mask, radius, next, fold, lift, lent}
+use Rattle.promises.specs.Marks.{markAt, markLength}
+use Rattle.promises.specs.Book.{Book, write, Call, Query, start, feed, load, mark, back, ask, split, longest, mask, radius, next, fold, lift, lent}
 use Rattle.layout.specs.declared.Found.{Found}
 use Rattle.layout.specs.Record.{recordOf}
 use Rattle.layout.specs.Yield.{yieldAt}
-use Rattle.promises.specs.Replies.{unless, orNoSplit, orNoEnding, orTooLong, gives, splitReply, recordReply, refusalOf, atZero, replyTo, shown, unfoldReply}
-use Rattle.promises.specs.State.{fresh, arraysOf, withLifts, codeIn, withPick}
+use Rattle.promises.specs.Replies.{unless, orNoSplit, orNoEnding, orTooLong, orNoMark, orFifthName, gives, splitReply, recordReply, refusalOf, atZero, replyTo, shown, unfoldReply}
+use Rattle.promises.specs.State.{fresh, arraysOf, withLifts, codeIn, withPick, marksOf, withMark, cutTo}
 use Rattle.promises.specs.Holds.{Holds}
 
 -- a row word's mask, in eight bits
 abbrev pub maskByte : ℕ → ℕ
 maskByte row = row / 2 % 256
+
+-- a call that may write, on a state that holds what stands in the book
+pub record Writes (b : Book) (call : Call) (r : Reply) (state : Draft) : Type 0 where
+  pub replies : r ≡ replyTo b call
+  -- "which takes a pick and stores nothing": the state then holds what the book then has
+  pub holds : Holds state (write b call)
 
 -- Start, on whatever was stored
 pub record StartPromise (d : Draft) (K : ℕ) (r : Started) : Type 0 where
@@ -42,11 +50,6 @@ pub record StartPromise (d : Draft) (K : ℕ) (r : Started) : Type 0 where
   pub begins : startRefusal K ≡ 0 → r .state ≡ fresh K
 
 -- Feed
-
-pub record Feeds (b : Book) (pick : ℕ) (before : List ℕ) (said : Said) (state : Draft) (after : List ℕ) : Type 0 where
-  pub replies : reply said after ≡ replyTo b (feed pick before)
-  -- "which takes a pick and stores nothing": the state then holds what the book then has
-  pub holds : Holds state (write b (feed pick before))
 
 -- z is what the core computes; the mask and the lengths visited are its
 pub record FeedComputes (d : Draft) (pick : ℕ) (before : List ℕ) (z : After) (said : Said) (state : Draft) (after : List ℕ) : Type 0 where
@@ -59,7 +62,7 @@ pub record FeedComputes (d : Draft) (pick : ℕ) (before : List ℕ) (z : After)
   pub stores : state ≡ withPick d pick
 
 pub record FeedPromise (d : Draft) (pick : ℕ) (before : List ℕ) (r : Fed) (after : List ℕ) : Type 0 where
-  pub meaning : (b : Book) → Holds d b → Feeds b pick before (feedSays (r .answer)) (r .state) after
+  pub meaning : (b : Book) → Holds d b → Writes b (feed pick before) (reply (feedSays (r .answer)) after) (r .state)
   pub refuses : feedRefusal (d .n) (d .k) pick (length before) ≢ 0
       → (feedSays (r .answer) ≡ refused (feedRefusal (d .n) (d .k) pick (length before))) × (r .state ≡ d) × (after ≡ before)
   pub computes : feedRefusal (d .n) (d .k) pick (length before) ≡ 0
@@ -67,16 +70,27 @@ pub record FeedPromise (d : Draft) (pick : ℕ) (before : List ℕ) (r : Fed) (a
 
 -- Load
 
-pub record Loads (b : Book) (lifts : List ℕ) (said : Said) (state : Draft) : Type 0 where
-  pub replies : reply said [] ≡ replyTo b (load lifts)
-  pub holds : Holds state (write b (load lifts))
-
 pub record LoadPromise (d : Draft) (lifts : List ℕ) (r : Loaded) : Type 0 where
-  pub meaning : (b : Book) → Holds d b → Loads b lifts (loadSays (r .answer)) (r .state)
+  pub meaning : (b : Book) → Holds d b → Writes b (load lifts) (reply (loadSays (r .answer)) []) (r .state)
   -- "A refused table leaves the former in force"
   pub refuses : loadRefusal (d .n) (d .k) lifts ≢ 0
       → (loadSays (r .answer) ≡ atZero lifts (refused (loadRefusal (d .n) (d .k) lifts))) × (r .state ≡ d)
   pub computes : loadRefusal (d .n) (d .k) lifts ≡ 0 → (loadSays (r .answer) ≡ gave []) × (r .state ≡ withLifts d lifts)
+
+-- Mark and back: found is what the stored marks say, next the state after an accepted call
+pub record Marking (d : Draft) (call : Call) (found : Said) (next : Draft) (r : Marked) : Type 0 where
+  pub meaning : (b : Book) → Holds d b → Writes b call (reply (markSays (r .answer)) []) (r .state)
+  pub computes : reply (markSays (r .answer)) [] ≡ unless (refusalOf (d .n) (d .k) call) [] (reply found [])
+  -- whatever the number
+  pub refuses : (number : ℕ) → markSays (r .answer) ≡ refused number → r .state ≡ d
+  pub stores : markSays (r .answer) ≡ gave [] → r .state ≡ next
+
+abbrev pub MarkPromise : (d : Draft) (name : ℕ) (r : Marked) → Type 0
+MarkPromise d name r = Marking d (mark name) (orFifthName (marksOf d) name) (withMark d name) r
+
+-- of any state: an equation of states
+abbrev pub BackPromise : (d : Draft) (name : ℕ) (r : Marked) → Type 0
+BackPromise d name r = Marking d (back name) (orNoMark (marksOf d) name) (cutTo d (markLength (markAt (marksOf d) name))) r
 
 -- The calls that only read
 

@@ -12,7 +12,7 @@ use Rattle.words.specs.Definitions.{mostPicks, mostSections, mostVisits, firstL
 use Rattle.words.specs.Computed.{rising?}
 use Rattle.words.specs.Ranges.{between, between-true}
 use Rattle.promises.specs.Lifts.{tableSize, noneZero}
-use Rattle.promises.specs.Refusals.{test, line1, line2, line3, line4, line6, line7, line8, line13, line14, line15, line16, startRefusal, feedRefusal, loadRefusal, maskRefusal, centreRefusal, longestRefusal, splitRefusal, recordRefusal, liftRefusal, showRefusal}
+use Rattle.promises.specs.Refusals.{test, line1, line2, line3, line4, line6, line7, line8, line13, line14, line15, line16, startRefusal, feedRefusal, loadRefusal, maskRefusal, centreRefusal, longestRefusal, splitRefusal, recordRefusal, letterRefusal, showRefusal}
 
 test-zero : (t : Bool) (number after : ℕ) → 0 < number → test t number after ≡ 0 → (t ≡ true) × (after ≡ 0)
 test-zero true number after l e = (refl, e)
@@ -66,9 +66,9 @@ pub longest-passed : (n K : ℕ) → longestRefusal n K ≡ 0 → Passed n K
 unfolding longestRefusal
 longest-passed n K e = passed n K _ e .0
 
-pub lift-fits : (n K letter : ℕ) → liftRefusal n K letter ≡ 0 → From firstLetter lastLetter letter
-unfolding liftRefusal
-lift-fits n K letter e = between-true firstLetter lastLetter letter (test-zero _ 2 0 (omega arith) (passed n K _ e .1) .0)
+pub letter-passed : (n K letter : ℕ) → letterRefusal n K letter ≡ 0 → Passed n K
+unfolding letterRefusal
+letter-passed n K letter e = passed n K _ e .0
 
 pub show-fits : (letters ends : List ℕ) (s : ℕ) → showRefusal letters ends s ≡ 0 → (1 ≤ s) × (s ≤ length ends) × Rising (length letters) 0 ends
 unfolding showRefusal
@@ -146,9 +146,9 @@ pub record-order : (n K i k : ℕ) → orElse (line7 n K 0) (orElse (line1 K k 0
 unfolding recordRefusal
 record-order n K i k = or-else (leb n mostPicks && between 1 mostSections K) 6 _ ∙ ap (line7 n K) (or-else (between 1 K k) 0 _)
 
-pub lift-order : (n K letter : ℕ) → orElse (line7 n K 0) (line2 letter 0) ≡ liftRefusal n K letter
-unfolding liftRefusal
-lift-order n K letter = or-else (leb n mostPicks && between 1 mostSections K) 6 _
+pub letter-order : (n K letter : ℕ) → orElse (line7 n K 0) (line2 letter 0) ≡ letterRefusal n K letter
+unfolding letterRefusal
+letter-order n K letter = or-else (leb n mostPicks && between 1 mostSections K) 6 _
 
 pub table-fits : (n K bytes : ℕ) → orElse (line7 n K 0) (line14 bytes 0) ≡ 0 → bytes ≡ tableSize
 table-fits n K bytes e =

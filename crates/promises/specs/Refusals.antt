@@ -1,7 +1,7 @@
 -- Document 01's two lists of refusals, with document 02's numbers, and for each call the order in which it tests them: 7 first, then
--- the input numbers in rising order but for 5, with 13 in the place of 3, then 8, 9 or 10, then 5; a load's are 7, 14, 15, 16. A call's
--- number is that of the first test that fails, 0 where none does. Numbers 9, 10, a record's 5, and 11 with its place hang on what is found:
--- they are in Replies.antt, and so is the place of 15.
+-- the input numbers in rising order but for 5, with 13 in the place of 3, then 8, 9 or 10, then 5; a load's are 7, 14, 15, 16; 17 and 18
+-- stand where 8 does. A call's number is that of the first test that fails, 0 where none does. Numbers 9, 10, a record's 5, 11 with its
+-- place, 17 and 18 hang on what is found: they are in Replies.antt, and so is the place of 15.
 use mathlib.Core.Bool.{Bool, true, false, _&&_, decide}
 use mathlib.Core.List.{List}
 use Prim.Native.Nat.{ℕ, _+_, _*_}
@@ -105,9 +105,9 @@ splitRefusal n K i k entries = line7 n K (line1 K k (line13 k entries (line4 0 n
 unfoldable pub recordRefusal : (n K i k : ℕ) → ℕ
 recordRefusal n K i k = line7 n K (line1 K k (line4 0 n i 0))
 
--- 7, 2
-unfoldable pub liftRefusal : (n K letter : ℕ) → ℕ
-liftRefusal n K letter = line7 n K (line2 letter 0)
+-- 7, 2; a mark's goes on to 18, a going back's to 17
+unfoldable pub letterRefusal : (n K letter : ℕ) → ℕ
+letterRefusal n K letter = line7 n K (line2 letter 0)
 
 -- 4, 6
 unfoldable pub showRefusal : (letters ends : List ℕ) (s : ℕ) → ℕ

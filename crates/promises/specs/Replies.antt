@@ -1,6 +1,6 @@
 -- What each call replies: refused under the number of the first test that fails, or what is found. `replyTo` reads all of it from the
 -- plain book.
-use mathlib.Core.Bool.{cond}
+use mathlib.Core.Bool.{Bool, true, false, cond}
 use mathlib.Core.List.{List, [], _∷_}
 use mathlib.Core.Option.{Option, some, none}
 use Prim.Native.Nat.{ℕ, zero, suc, _-_}
@@ -14,9 +14,10 @@ use Rattle.layout.specs.Layout.{total}
 use Rattle.layout.specs.Unfolding.{picksOf}
 use Rattle.layout.specs.Reading.{Reading, whole, breaks, reading}
 use Rattle.promises.specs.Answers.{Said, gave, refused, refusedAt, Reply, reply, filled}
-use Rattle.promises.specs.Refusals.{startRefusal, feedRefusal, loadRefusal, maskRefusal, centreRefusal, longestRefusal, splitRefusal, recordRefusal, liftRefusal, showRefusal, unfoldRefusal}
+use Rattle.promises.specs.Refusals.{startRefusal, feedRefusal, loadRefusal, maskRefusal, centreRefusal, longestRefusal, splitRefusal, recordRefusal, letterRefusal, showRefusal, unfoldRefusal}
 use Rattle.promises.specs.Lifts.{liftIn, firstZero}
-use Rattle.promises.specs.Book.{Book, write, Call, start, feed, load, ask, split, longest, mask, radius, next, fold, lift, lent, lifted, fedLifted}
+use Rattle.promises.specs.Marks.{Marks, markAt, isMark, roomFor}
+use Rattle.promises.specs.Book.{Book, write, Call, start, feed, load, mark, back, ask, split, longest, mask, radius, next, fold, lift, lent, lifted, fedLifted}
 
 -- "A refusal returns its number only; state and lent buffers keep every byte."
 unfoldable pub unless : (number : ℕ) (list : List ℕ) → Reply → Reply
@@ -39,6 +40,19 @@ unfoldable pub orTooLong : (bytes output : List ℕ) → Reply
 orTooLong bytes output =
     cond (leb (length bytes) (length output)) (reply (gave (length bytes ∷ [])) (filled bytes output)) (reply (refused 5) output)
 
+-- accepted, with no value; or refused
+abbrev pub orRefused : Bool → (number : ℕ) → Said
+orRefused true number = gave []
+orRefused false number = refused number
+
+-- 17. document 02: "no such mark"
+abbrev pub orNoMark : Marks → (name : ℕ) → Said
+orNoMark marks name = orRefused (isMark (markAt marks name)) 17
+
+-- 18. document 02: "a fifth name"
+abbrev pub orFifthName : Marks → (name : ℕ) → Said
+orFifthName marks name = orRefused (roomFor marks name) 18
+
 -- What is found, as a reply
 
 -- values, and no list
@@ -60,19 +74,21 @@ recordReply w i found output = orNoSplit found output (λ ends. orTooLong (recor
 
 -- The calls
 
--- A call's number by the tests that do not hang on the draft: n and K are those stored
+-- A call's number by the tests that do not hang on the draft or its marks: n and K are those stored
 unfoldable pub refusalOf : (n K : ℕ) → Call → ℕ
-unfolding startRefusal feedRefusal loadRefusal maskRefusal centreRefusal longestRefusal splitRefusal recordRefusal liftRefusal
+unfolding startRefusal feedRefusal loadRefusal maskRefusal centreRefusal longestRefusal splitRefusal recordRefusal letterRefusal
 refusalOf n K (start k) = startRefusal k
 refusalOf n K (feed pick list) = feedRefusal n K pick (length list)
 refusalOf n K (load lifts) = loadRefusal n K lifts
+refusalOf n K (mark name) = letterRefusal n K name
+refusalOf n K (back name) = letterRefusal n K name
 refusalOf n K (ask (split i k list)) = splitRefusal n K i k (length list)
 refusalOf n K (ask longest) = longestRefusal n K
 refusalOf n K (ask (mask i)) = maskRefusal n K i
 refusalOf n K (ask (radius c)) = centreRefusal n K c
 refusalOf n K (ask (next c)) = centreRefusal n K c
 refusalOf n K (ask (fold i k output)) = recordRefusal n K i k
-refusalOf n K (ask (lift letter)) = liftRefusal n K letter
+refusalOf n K (ask (lift letter)) = letterRefusal n K letter
 
 -- "15, a lift of 0, with the first one's place from 0"
 abbrev pub atZero : (lifts : List ℕ) → Said → Said
@@ -85,6 +101,8 @@ abbrev pub placed : Call → Reply → Reply
 placed (start K) r = r
 placed (feed pick list) r = r
 placed (load lifts) r = reply (atZero lifts (r .said)) (r .list)
+placed (mark name) r = r
+placed (back name) r = r
 placed (ask q) r = r
 
 -- From the book: palindromes are read by lifts, a record has the letters
@@ -102,6 +120,8 @@ unfolding orNoSplit orTooLong recordOf
 foundFor b (start K) = gives []
 foundFor b (feed pick list) = fedReply (fedMask b pick) (fedVisits b pick) list
 foundFor b (load lifts) = gives []
+foundFor b (mark name) = reply (orFifthName (b .marks) name) []
+foundFor b (back name) = reply (orNoMark (b .marks) name) []
 foundFor b (ask (split i k list)) = splitReply (splitOf (word (lifted b)) i k) list
 foundFor b (ask longest) = gives (longestCentre (word (lifted b)) (length (lifted b)) ∷ [])
 foundFor b (ask (mask i)) = gives (maskOf (b .K) (word (lifted b)) i ∷ [])

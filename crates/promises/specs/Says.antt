@@ -9,7 +9,7 @@ use Rattle.words.specs.Definitions.{radius as radiusOf}
 use Rattle.promises.specs.Answers.{gave, Reply, reply, filled}
 use Rattle.layout.specs.Record.{recordOf}
 use Rattle.promises.specs.Lifts.{liftIn}
-use Rattle.promises.specs.Book.{Book, Call, start, feed, load, ask, split, longest, mask, radius, next, fold, lift, lifted, fedLifted}
+use Rattle.promises.specs.Book.{Book, Call, start, feed, load, mark, back, ask, split, longest, mask, radius, next, fold, lift, lifted, fedLifted}
 
 -- "the answer is yes exactly when the prefix is k non-empty palindromes joined": i is the prefix; bit k - 1 is for k
 pub record Yes (K : ℕ) (u : List ℕ) (i m : ℕ) : Type 0 where
@@ -74,6 +74,8 @@ unfoldable pub Says : Book → Call → Reply → Type 0
 Says b (start k) r = r ≡ reply (gave []) []
 Says b (feed pick visits) r = FeedSays (b .K) (fedLifted b pick) visits r
 Says b (load lifts) r = r ≡ reply (gave []) []
+Says b (mark name) r = r ≡ reply (gave []) []
+Says b (back name) r = r ≡ reply (gave []) []
 Says b (ask (split i k ends)) r = SplitSays (lifted b) i k ends r
 Says b (ask longest) r = LongestSays (lifted b) r
 Says b (ask (mask i)) r = MaskSays (b .K) (lifted b) i r

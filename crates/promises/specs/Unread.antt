@@ -41,7 +41,7 @@ partsFor d (lift letter) = record { letters = []; lifts = d .lifts; radius = [];
 
 -- a state of these numbers and parts, all its other arrays empty
 abbrev pub stateFrom : Numbers → Parts → Draft
-stateFrom held p = draftIn held (p .letters) [] (p .lifts) (withNext (withRadius (byCentre []) (p .radius)) (p .next)) (withRows (byPlace []) (p .rows))
+stateFrom held p = draftIn held (p .letters) [] (p .lifts) [] (withNext (withRadius (byCentre []) (p .radius)) (p .next)) (withRows (byPlace []) (p .rows))
 
 -- the reply, from these numbers and parts alone
 unfoldable pub replyFrom : Numbers → Parts → Query → Reply
@@ -54,7 +54,7 @@ PartsHold = (d : Draft) (q : Query) (r : Reply) → Reads d q r → r ≡ replyF
 
 -- a state with other row words, all else as it is
 abbrev pub otherRows : Draft → (rows : List ℕ) → Draft
-otherRows d rows = draftIn (numbersOf d) (d .letters) (d .codes) (d .lifts) (centresOf d) (withRows (placesOf d) rows)
+otherRows d rows = draftIn (numbersOf d) (d .letters) (d .codes) (d .lifts) (d .marks) (centresOf d) (withRows (placesOf d) rows)
 
 -- alike in all but row words above place i
 pub record AlikeTo (i : ℕ) (d e : Draft) : Type 0 where

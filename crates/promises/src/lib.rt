@@ -4,9 +4,11 @@ use cells::ByPlace;
 use cells::Centre;
 use cells::Letters;
 use cells::Lifts;
+use cells::Marks;
 
 // The numbers of the refusals that come after a search: no split, no ending with the centre, a record longer than the output (or
-// its picks more than the list's entries), bytes that are no record, lengths that do not add up to the picks, a lift of 0.
+// its picks more than the list's entries), bytes that are no record, lengths that do not add up to the picks, a lift of 0, no such
+// mark, a fifth name.
 pub const NO_SPLIT: u8 = 9;
 
 pub const NO_ENDING: u8 = 10;
@@ -18,6 +20,10 @@ pub const NO_RECORD: u8 = 11;
 pub const UNEQUAL: u8 = 12;
 
 pub const ZERO_LIFT: u8 = 15;
+
+pub const NO_MARK: u8 = 17;
+
+pub const FIFTH_NAME: u8 = 18;
 
 // The state of the board. Any numbers may be stored in it; a start does not look at them, and makes it an empty draft.
 pub struct Draft {
@@ -31,6 +37,8 @@ pub struct Draft {
     pub codes: Letters,
     // The table in force.
     pub lifts: Lifts,
+    // For each letter the length that it marks, and one more; 0 where it is no mark.
+    pub marks: Marks,
     // The iterator's arrays: radii, lend lists, the list of the endings' centres.
     pub radius: ByCentre,
     pub heads: ByPlace,
@@ -72,6 +80,17 @@ pub enum LoadAnswer {
 
 pub struct Loaded {
     pub answer: LoadAnswer,
+    pub state: Draft,
+}
+
+// The answer to setting a mark, and to going back to one.
+pub enum MarkAnswer {
+    Done,
+    Refused(u8),
+}
+
+pub struct Marked {
+    pub answer: MarkAnswer,
     pub state: Draft,
 }
 

@@ -1,7 +1,7 @@
 // The numbers of the refusals: each line of the documents' lists, and for each call the first that it meets. 0 is none.
-// Number 6 stands with show; 9, 10, 5 and 15 come after a search, with the calls that make it.
+// Number 6 stands with show; 9, 10, 5, 15, 17 and 18 come after a search, with the calls that make it.
 ghost use mathlib.Core.Path.{_≡_};
-ghost use Rattle.promises.specs.Refusals.{line1, line2, line3, line4, line7, line8, line13, line14, line16, startRefusal, feedRefusal, maskRefusal, centreRefusal, longestRefusal, splitRefusal, recordRefusal, liftRefusal};
+ghost use Rattle.promises.specs.Refusals.{line1, line2, line3, line4, line7, line8, line13, line14, line16, startRefusal, feedRefusal, maskRefusal, centreRefusal, longestRefusal, splitRefusal, recordRefusal, letterRefusal};
 ghost use Rattle.promises.specs.RefusalLaws.{orElse};
 ghost use Prim.Native.Nat.{_+_, _*_, _≤_};
 ghost use Rattle.words.specs.Definitions.{mostPicks};
@@ -196,8 +196,9 @@ pub fn record_refusal(held: Numbers, i: Place, k: u8) -> u8
     first(state, first(sections, prefix))
 }
 
-pub fn lift_refusal(held: Numbers, letter: u8) -> u8
-    ensures { λ r. ⌜ r ≡ liftRefusal (held .n) (held .k) letter ⌝ }
+// Of a lift, a mark and going back: 7 and 2.
+pub fn letter_refusal(held: Numbers, letter: u8) -> u8
+    ensures { λ r. ⌜ r ≡ letterRefusal (held .n) (held .k) letter ⌝ }
 {
     let state = line7(held.n, held.k);
     let letter = line2(letter);

@@ -1,5 +1,7 @@
 // The feeds of a whole draft on lent arrays, one after another: what bench/ times.
 ghost use mathlib.Core.Path.{_≡_};
+ghost use mathlib.Core.List.{List};
+ghost use Prim.Native.Nat.{ℕ};
 ghost use Rattle.cells.specs.Lanes.{byCentre, byPlace};
 ghost use Rattle.promises.specs.State.{draftIn};
 ghost use Rattle.speed.specs.Feeds.{maskOf, FeedsAll};
@@ -36,12 +38,12 @@ pub extern "C" fn feed_all(
     picks: &[u8],
     masks: &mut [u8],
 ) -> usize
-    ensures { λ r. ⌜ FeedsAll
+    ensures { λ r. ⌜ ((marks : List ℕ) → FeedsAll
         (draftIn (record { n = 0; k = 8; longest = record { 0 = 1 } })
-        (now (letters .entry)) (now (codes .entry)) (now (lifts .entry)) (byCentre (now (centres .entry))) (byPlace (now (places .entry))))
+        (now (letters .entry)) (now (codes .entry)) (now (lifts .entry)) marks (byCentre (now (centres .entry))) (byPlace (now (places .entry))))
         (now (picks .entry)) (now (masks .entry)) r
-        (λ held. draftIn held (now (letters .exit)) (now (codes .exit)) (now (lifts .entry)) (byCentre (now (centres .exit))) (byPlace (now (places .exit))))
-        (now (masks .exit)) ⌝ }
+        (λ held. draftIn held (now (letters .exit)) (now (codes .exit)) (now (lifts .entry)) marks (byCentre (now (centres .exit))) (byPlace (now (places .exit))))
+        (now (masks .exit))) ⌝ }
 {
     let mut held = Numbers {
         n: 0,

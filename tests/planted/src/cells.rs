@@ -33,6 +33,12 @@ pub type Letters = [u8; PICKS];
 /// A lift for each letter.
 pub type Lifts = [u8; ALPHABET];
 
+/// The most marks at a time.
+pub const MARKS: usize = 4;
+
+/// A mark for each letter.
+pub type Marks = [u16; ALPHABET];
+
 /// A number of 16 bits for each place.
 pub type ByPlace = [u16; PICKS + 1];
 
@@ -105,6 +111,11 @@ pub fn at_place(lane: &ByPlace, i: Place) -> u16 {
 /// Stores a word at a place of a lane.
 pub fn store_at_place(places: &mut Places, lane: usize, i: Place, word: u16) {
     store(&mut places[lane], i.0, word);
+}
+
+/// The place of a letter in the alphabet, from 0; 0 of a byte below A.
+pub fn letter_index(letter: u8) -> usize {
+    usize::from(letter.saturating_sub(FIRST_LETTER))
 }
 
 /// The letter of the pick after place i.

@@ -19,7 +19,7 @@ pub mod state;
 pub mod text;
 
 use calls::show::{show, show_number};
-use cells::{Centre, Centres, Letters, Lifts, Numbers, Place, Places};
+use cells::{Centre, Centres, Letters, Lifts, Marks, Numbers, Place, Places};
 use layout::{Section, Turn};
 use reader::section::section_at;
 use reader::unfold::unfold;
@@ -38,6 +38,7 @@ pub unsafe extern "C" fn drive(
     letters: &mut Letters,
     codes: &mut Letters,
     lifts: &mut Lifts,
+    marks: &mut Marks,
     centres: &mut Centres,
     places: &mut Places,
     numbers: &mut [usize; 3],
@@ -61,6 +62,7 @@ pub unsafe extern "C" fn drive(
         letters,
         codes,
         lifts,
+        marks,
         centres,
         places,
     };

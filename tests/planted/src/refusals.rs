@@ -1,6 +1,6 @@
 //! The numbers of the refusals: each line of the documents' lists, and for each call the
-//! first that it meets. 0 is none. Number 6 stands with show, 15 with load; 9, 10 and 5
-//! come after a search, with the calls that make it.
+//! first that it meets. 0 is none. Number 6 stands with show; 9, 10, 5, 15, 17 and 18 come
+//! after a search, with the calls that make it.
 
 use crate::cells::{Centre, Numbers, Place, ALPHABET, FIRST_LETTER, LAST_LETTER};
 use crate::cells::{PICKS, SECTIONS, VISITS};
@@ -127,8 +127,8 @@ pub fn record_refusal(held: Numbers, i: Place, k: usize) -> Answer<()> {
     first(&[stored, sections, prefix])
 }
 
-/// The lift of a letter.
-pub fn lift_refusal(held: Numbers, letter: u8) -> Answer<()> {
+/// Of a lift, a mark and going back: 7 and 2.
+pub fn letter_refusal(held: Numbers, letter: u8) -> Answer<()> {
     let stored = line7(held.n, held.k);
     let letter = line2(letter);
     first(&[stored, letter])

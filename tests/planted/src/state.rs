@@ -1,14 +1,16 @@
 //! The state of the board, and what a call answers.
 
-use crate::cells::{Centres, Letters, Lifts, Numbers, Places};
+use crate::cells::{Centres, Letters, Lifts, Marks, Numbers, Places};
 
 /// The state: three numbers, and the arrays, which are lent. The codes are the lifts of the
-/// picks when they were fed.
+/// picks when they were fed; of a letter that is a mark, the marks have one more than its
+/// length, of any other 0.
 pub struct State<'a> {
     pub numbers: Numbers,
     pub letters: &'a mut Letters,
     pub codes: &'a mut Letters,
     pub lifts: &'a mut Lifts,
+    pub marks: &'a mut Marks,
     pub centres: &'a mut Centres,
     pub places: &'a mut Places,
 }

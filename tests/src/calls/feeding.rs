@@ -14,8 +14,8 @@ pub struct Taken {
     pub visits: usize,
 }
 
-/// "Start: K, giving an empty draft." It does not look at the stored state, and "brings the
-/// fixed" lifts back.
+/// "Start: K, giving an empty draft." It does not look at the stored state, "brings the
+/// fixed" lifts back and "drops all marks".
 pub fn start(state: &mut State, most_sections: usize) -> Answer<()> {
     refuse_if(!is_most_sections(most_sections), SECTIONS_OUT_OF_RANGE)?;
     *state = State::empty(most_sections);

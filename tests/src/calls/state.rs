@@ -6,7 +6,8 @@ use crate::plain::{fixed_lifts, is_most_sections, word, Lifts};
 use crate::{memo, LETTERS, MOST_PICKS};
 
 /// A stored state: n, K, the letters, of which the first n are the draft, the lift of each
-/// when it was fed, and the lifts in force.
+/// when it was fed, the lifts in force, and for each letter that is a mark one more than its
+/// length, else 0.
 #[derive(Clone, Debug, PartialEq, Eq)]
 pub struct State {
     pub n: usize,
@@ -14,6 +15,7 @@ pub struct State {
     pub letters: [u8; MOST_PICKS],
     pub codes: [u8; MOST_PICKS],
     pub lifts: Lifts,
+    pub marks: [u16; LETTERS],
 }
 
 impl State {
@@ -25,15 +27,16 @@ impl State {
             letters: [0; MOST_PICKS],
             codes: [0; MOST_PICKS],
             lifts: [0; LETTERS],
+            marks: [0; LETTERS],
         }
     }
 
-    /// The empty draft with K, under the fixed lifts.
+    /// The empty draft with K, under the fixed lifts and without a mark.
     pub fn empty(most_sections: usize) -> State {
         State::of(b"", most_sections, &fixed_lifts())
     }
 
-    /// A draft with K, all of it fed under these lifts.
+    /// A draft with K, all of it fed under these lifts, without a mark.
     pub fn of(draft: &[u8], most_sections: usize, lifts: &Lifts) -> State {
         let n = draft.len();
         let mut state = State {

@@ -1,4 +1,5 @@
-//! The stored state: letters, codes, lifts, lanes by centre and by place, and three numbers.
+//! The stored state: letters, codes, lifts, marks, lanes by centre and by place, and three
+//! numbers.
 
 use super::guarded::Guarded;
 use crate::plain::Lifts;
@@ -13,6 +14,8 @@ pub struct Board {
     pub(super) codes: Guarded<u8>,
     /// The lifts in force.
     pub(super) lifts: Guarded<u8>,
+    /// Of each letter that is a mark one more than its length, else 0.
+    pub(super) marks: Guarded<u16>,
     /// The lanes by centre, one after the other.
     pub(super) centres: Guarded<u16>,
     /// The lanes by place, one after the other.
@@ -30,13 +33,14 @@ impl Board {
         board
     }
 
-    /// Letters, codes, lifts and lanes with the given entries; n, K and the stored centre
-    /// are 0.
+    /// Letters, codes, lifts, lanes and marks with the given entries; n, K and the stored
+    /// centre are 0.
     pub fn filled(mut entry: impl FnMut() -> u16) -> Board {
         let mut board = Board {
             letters: Guarded::new(MOST_PICKS),
             codes: Guarded::new(MOST_PICKS),
             lifts: Guarded::new(LETTERS),
+            marks: Guarded::new(LETTERS),
             centres: Guarded::new(CENTRE_LANES * CENTRES),
             places: Guarded::new(PLACE_LANES * PLACES),
             numbers: Guarded::new(NUMBERS),
@@ -47,6 +51,7 @@ impl Board {
         for lane in board.lanes_mut() {
             lane.fill_with(&mut entry);
         }
+        board.marks_mut().fill_with(&mut entry);
         board
     }
 
@@ -63,6 +68,11 @@ impl Board {
     /// The stored lifts, to write any of them.
     pub fn lifts_mut(&mut self) -> &mut [u8] {
         self.lifts.inner_mut()
+    }
+
+    /// The stored marks, to write any of them.
+    pub fn marks_mut(&mut self) -> &mut [u16] {
+        self.marks.inner_mut()
     }
 
     /// Every array of bytes, to write any of them: letters, codes, lifts.
@@ -139,6 +149,12 @@ impl Board {
         lifts.expect("a lift for each letter")
     }
 
+    /// The stored marks, A to Z.
+    pub fn marks(&self) -> [u16; LETTERS] {
+        let marks = self.marks.inner().try_into();
+        marks.expect("an entry for each letter")
+    }
+
     /// The row words of places 0 to n.
     pub fn rows(&self) -> &[u16] {
         &self.place_lane(ROWS)[..=self.n()]
@@ -156,11 +172,19 @@ impl Board {
         same == *other
     }
 
-    /// Whether nothing is written outside the letters, the codes, the lifts, the lanes and
-    /// the numbers.
+    /// Whether all is as in another state but for the marks.
+    pub fn keeps_all_but_marks(&self, other: &Board) -> bool {
+        let mut same = self.clone();
+        same.marks = other.marks.clone();
+        same == *other
+    }
+
+    /// Whether nothing is written outside the letters, the codes, the lifts, the marks, the
+    /// lanes and the numbers.
     pub(super) fn guards_hold(&self) -> bool {
         let bytes = [&self.letters, &self.codes, &self.lifts];
         bytes.iter().all(|bytes| bytes.guards_hold())
+            && self.marks.guards_hold()
             && self.centres.guards_hold()
             && self.places.guards_hold()
             && self.numbers.guards_hold()

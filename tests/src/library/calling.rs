@@ -64,10 +64,17 @@ impl Board {
 
     /// Start.
     pub fn start(&mut self, most_sections: u8) -> Answer<()> {
-        let call = Call::Start { most_sections };
-        let none = values(call, self.make(call, &mut [], &mut []))?;
-        assert_eq!(none, [0; VALUES], "values of {call:?}");
-        Ok(())
+        self.nothing(Call::Start { most_sections })
+    }
+
+    /// Mark.
+    pub fn mark(&mut self, name: u8) -> Answer<()> {
+        self.nothing(Call::Mark { name })
+    }
+
+    /// Going back to a mark.
+    pub fn back(&mut self, name: u8) -> Answer<()> {
+        self.nothing(Call::Back { name })
     }
 
     /// Load.
@@ -134,6 +141,13 @@ impl Board {
             length,
             period,
         })
+    }
+
+    /// A call that is lent nothing and gives no value.
+    fn nothing(&mut self, call: Call) -> Answer<()> {
+        let none = values(call, self.make(call, &mut [], &mut []))?;
+        assert_eq!(none, [0; VALUES], "values of {call:?}");
+        Ok(())
     }
 
     /// The one value of a call that is lent nothing.

@@ -52,7 +52,7 @@ impl Lent {
 fn reply(answer: &[usize]) -> Reply {
     match *answer {
         [0, first, second, third] => Ok([first, second, third]),
-        [1, number @ (1..=10 | 13 | 14 | 16), 0, 0] => refused(number as Refusal),
+        [1, number @ (1..=10 | 13 | 14 | 16..=18), 0, 0] => refused(number as Refusal),
         [2, number @ 15, place, 0] => Err((number as Refusal, Some(place))),
         _ => panic!("{answer:?} is no answer"),
     }
@@ -97,6 +97,7 @@ impl Board {
                 self.letters.pointer(),
                 self.codes.pointer(),
                 self.lifts.pointer(),
+                self.marks.pointer(),
                 self.centres.pointer(),
                 self.places.pointer(),
                 self.numbers.pointer(),

@@ -36,11 +36,12 @@ const fn bytes(name: &'static str, length: usize) -> Array {
     }
 }
 
-/// "The arrays are letters codes lifts radius heads lends next prev rows gathered."
-pub const ARRAYS: [Array; 10] = [
+/// "The arrays are letters codes lifts marks radius heads lends next prev rows gathered."
+pub const ARRAYS: [Array; 11] = [
     bytes("letters", MOST_PICKS),
     bytes("codes", MOST_PICKS),
     bytes("lifts", LETTERS),
+    lane("marks", LETTERS),
     lane("radius", CENTRES),
     lane("heads", PLACES),
     lane("lends", CENTRES),
@@ -57,7 +58,14 @@ pub struct Entry {
     pub index: usize,
 }
 
-/// The bytes of an entry's array, which are always known.
+impl Entry {
+    /// Whether the entry is one of the marks, which only the calls for marks look at.
+    pub fn is_mark(self) -> bool {
+        ARRAYS[self.array].name == "marks"
+    }
+}
+
+/// The bytes of an entry's array, which are always known, and so are the marks.
 fn bytes_of<'a>(array: usize, state: &'a mut State) -> Option<&'a mut [u8]> {
     match ARRAYS[array].name {
         "letters" => Some(&mut state.letters),
@@ -74,12 +82,12 @@ enum Since {
     First,
     /// A start: every entry 0 but row word and gathered word of place 0, which are 1.
     Start,
-    /// A feed: no lane is known.
+    /// A feed, or a back that keeps picks: no lane is known.
     Feed,
 }
 
-/// What is known of the stored lanes: by the last start or feed, and by the pokes after it.
-/// The bytes are known by the calls and the pokes.
+/// What is known of the stored lanes: by the last start, feed or back, and by the pokes
+/// after it. The bytes and the marks are known by the calls and the pokes.
 pub struct Known {
     since: Since,
     poked: BTreeMap<Entry, u16>,
@@ -104,10 +112,20 @@ impl Known {
         self.poked.clear();
     }
 
+    /// After an accepted back that keeps so many picks: the lanes are those of that many
+    /// feeds behind a start.
+    pub fn back(&mut self, kept: usize) {
+        match kept {
+            0 => self.start(),
+            _ => self.feed(),
+        }
+    }
+
     /// After a poke.
     pub fn poke(&mut self, entry: Entry, value: u16, state: &mut State) {
         match bytes_of(entry.array, state) {
             Some(bytes) => bytes[entry.index] = value as u8,
+            None if entry.is_mark() => state.marks[entry.index] = value,
             None => drop(self.poked.insert(entry, value)),
         }
     }
@@ -117,6 +135,9 @@ impl Known {
         let Entry { array, index } = entry;
         if let Some(bytes) = bytes_of(array, state) {
             return Some(bytes[index].into());
+        }
+        if entry.is_mark() {
+            return Some(state.marks[index]);
         }
         let is_word = ["rows", "gathered"].contains(&ARRAYS[array].name);
         let poked = self.poked.get(&entry).copied();

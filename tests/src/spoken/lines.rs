@@ -20,6 +20,8 @@ pub enum Line {
     },
     Lift(u8),
     Load(Vec<u8>),
+    Mark(u8),
+    Back(u8),
     Unfold {
         record: Vec<u8>,
         bytes: usize,
@@ -42,9 +44,9 @@ pub enum Line {
 }
 
 /// The word of each line.
-pub const WORDS: [&str; 19] = [
-    "start", "load", "feed", "picks", "mask", "radius", "longest", "next", "split", "record",
-    "lift", "show", "unfold", "section", "numbers", "poke", "peek", "help", "quit",
+pub const WORDS: [&str; 21] = [
+    "start", "load", "feed", "picks", "mark", "back", "mask", "radius", "longest", "next", "split",
+    "record", "lift", "show", "unfold", "section", "numbers", "poke", "peek", "help", "quit",
 ];
 
 /// What the line asks for, one thing after the other; none where it "is no call".
@@ -109,7 +111,7 @@ fn size(words: &[&[u8]], left_out: usize) -> Option<usize> {
     }
 }
 
-/// What is no call on the stored state.
+/// What is no call on the stored state, or one that is known on every such state.
 fn other(word: &[u8], arguments: &[&[u8]]) -> Option<Line> {
     Some(match (word, arguments) {
         (b"show", [letters, s, ends @ ..]) => Line::Show {
@@ -124,6 +126,8 @@ fn other(word: &[u8], arguments: &[&[u8]]) -> Option<Line> {
                 .map(|byte| fitting(byte))
                 .collect::<Option<_>>()?,
         ),
+        (b"mark", [name]) => Line::Mark(pick(name)?),
+        (b"back", [name]) => Line::Back(pick(name)?),
         (b"unfold", [record, bytes @ ..]) => Line::Unfold {
             record: bytes_of(record)?,
             bytes: size(bytes, OUTPUT)?,

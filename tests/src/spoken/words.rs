@@ -28,7 +28,7 @@ pub fn number(word: &[u8]) -> Option<usize> {
     is_number(word).then(|| fitting(word).unwrap_or(usize::MAX))
 }
 
-/// "A pick or a letter is one character or a decimal number (digits are always a
+/// "A pick, a letter or a name is one character or a decimal number (digits are always a
 /// number)." Beyond a byte it is the largest, and so is a character that is not ASCII. A
 /// byte that is no character by itself counts as one.
 pub fn pick(word: &[u8]) -> Option<u8> {

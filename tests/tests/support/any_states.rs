@@ -4,7 +4,7 @@ use comparison::library::Board;
 use comparison::samples::Generator;
 use comparison::structured::broken_periods;
 use comparison::tables::some_lifts;
-use comparison::{MOST_PICKS, MOST_SECTIONS};
+use comparison::{LETTERS, MOST_PICKS, MOST_SECTIONS};
 
 /// Any number: small, near the arrays' lengths, or of any size.
 pub fn any_number(generator: &mut Generator) -> usize {
@@ -26,17 +26,38 @@ fn any_arrays(generator: &mut Generator) -> Board {
     Board::filled(|| generator.below(bound) as u16)
 }
 
-/// A state of any bytes, with n up to 2,048, any stored centre and K from 1 to 8.
+/// A state of any bytes, with n up to 2,048, any stored centre and K from 1 to 8. The marks
+/// are any bytes too, or often few.
 pub fn any_state(generator: &mut Generator) -> Board {
     let mut board = any_arrays(generator);
     let n = generator.below(MOST_PICKS + 1);
     let most_sections = 1 + generator.below(MOST_SECTIONS);
     board.store(n, most_sections, any_number(generator));
+    if generator.below(4) > 0 {
+        store_some_marks(&mut board, generator);
+    }
     board
 }
 
-/// The state of a true draft, under the fixed lifts or others, with some entries changed,
-/// and now and then a number.
+/// Stores marks of up to six letters, mostly among the first five, and no others: of lengths
+/// up to n, of n itself, and of any size.
+fn store_some_marks(board: &mut Board, generator: &mut Generator) {
+    let n = board.n();
+    let marks = board.marks_mut();
+    marks.fill(0);
+    for _ in 0..generator.below(7) {
+        let letter = [generator.below(LETTERS), generator.below(5)][generator.below(2)];
+        let length = match generator.below(4) {
+            0 => any_number(generator),
+            1 => n,
+            _ => generator.below(n + 1),
+        };
+        marks[letter] = length.saturating_add(1) as u16;
+    }
+}
+
+/// The state of a true draft, under the fixed lifts or others, with some marks, some entries
+/// changed, and now and then a number.
 pub fn spoiled_state(generator: &mut Generator) -> Board {
     let length = generator.below(MOST_PICKS + 1);
     let draft = broken_periods(generator, 3, length);
@@ -45,6 +66,7 @@ pub fn spoiled_state(generator: &mut Generator) -> Board {
         0 => Board::fed(&draft, most_sections),
         _ => Board::fed_under(&some_lifts(generator), &draft, most_sections),
     };
+    store_some_marks(&mut board, generator);
     for lane in board.lanes_mut() {
         for _ in 0..generator.below(20) {
             lane[generator.below(lane.len())] = any_number(generator) as u16;

@@ -1,27 +1,32 @@
 //! A call on any stored state: what must hold of it there.
 
+#[path = "shortened.rs"]
+mod shortened;
 #[path = "told.rs"]
 mod told;
 
 use comparison::beside::{BYTE, ENTRY};
 use comparison::calls::{Placed, Refusal};
 use comparison::library::Board;
-use comparison::listed::{found, listed};
+use comparison::listed::{found, listed, listed_by_marks};
 use comparison::plain::{self, are_ends, turn_count, Lifts};
 use comparison::scripted::{number_of, Call, Reply, VALUES};
-use comparison::VISIT_ROOM;
+use comparison::{FIRST_PICK, LETTERS, VISIT_ROOM};
+use shortened::shortened;
 use std::fmt::Display;
 pub use told::is_told;
 
 /// Makes a call on any stored state. "There 1 to 4 and 8 still hold, and beyond them
 /// the call need only end within bounds." A refusal keeps every byte, and so does a
 /// reading call of the state; an accepted call keeps the entries past those named, an
-/// accepted split counts the turns of the ends that it gives, and the stored picks and lifts
-/// are as the call leaves them. Gives the number that it is refused with.
+/// accepted split counts the turns of the ends that it gives, and the stored picks, lifts and
+/// marks are as the call leaves them. Gives the number that it is refused with.
 pub fn make_within_bounds(board: &mut Board, call: Call, step: impl Display) -> Option<Refusal> {
-    let (n, most_sections, lifts) = (board.n(), board.most_sections(), board.lifts());
-    let case = || format!("{call:?}, n {n}, K {most_sections}, {step}");
-    let number = listed(call, n, most_sections);
+    let (n, most_sections) = (board.n(), board.most_sections());
+    let (lifts, marks) = (board.lifts(), board.marks());
+    let case = || format!("{call:?}, n {n}, K {most_sections}, marks {marks:?}, {step}");
+    let by_marks = || listed_by_marks(call, &marks).map(|number| (number, None));
+    let number = listed(call, n, most_sections).or_else(by_marks);
     let left = left(board, call, number.is_some());
     let mut list = vec![ENTRY; call.entries()];
     let mut output = vec![BYTE; call.output_bytes()];
@@ -39,7 +44,7 @@ pub fn make_within_bounds(board: &mut Board, call: Call, step: impl Display) -> 
     let kept = output[bytes..].iter().all(|&byte| byte == BYTE);
     assert!(kept, "output {output:?}, {}", case());
     let stored = [board.n(), board.most_sections()];
-    let expected = numbers_after(call, reply, [n, most_sections]);
+    let expected = numbers_after(call, reply, [n, most_sections], &marks);
     assert_eq!(stored, expected, "stored n and K, {}", case());
     number_of(reply)
 }
@@ -65,7 +70,7 @@ fn are_possible(values: [usize; VALUES], call: Call, (n, lifts): Stored) -> bool
     match (call, values) {
         (Call::NextEnding { centre }, _) => is_told(values, usize::from(centre), n),
         (Call::Lift { letter }, _) => values == [lift_by(lifts, letter).into(), 0, 0],
-        (Call::Load { .. }, _) => values == [0; VALUES],
+        (Call::Load { .. } | Call::Mark { .. } | Call::Back { .. }, _) => values == [0; VALUES],
         (Call::Feed { .. }, [_, visits, 0]) => visits <= VISIT_ROOM,
         (_, [_, second, third]) => [second, third] == [0, 0],
     }
@@ -76,15 +81,25 @@ fn lift_by(lifts: &Lifts, letter: u8) -> u8 {
     plain::lift(lifts, letter).expect("a letter")
 }
 
-/// What a call must leave of the state: all of it, or the stored letters, codes and lifts.
+/// The stored marks.
+type Marks = [u16; LETTERS];
+
+/// What a call must leave of the state: all of it, or the stored letters and codes, lifts and
+/// marks.
 enum Left {
     State(Board),
-    Bytes([Vec<u8>; 2], Lifts),
+    Arrays([Vec<u8>; 2], Lifts, Marks),
 }
 
-/// What is refused or only reads changes no byte, and a load the lifts alone; an accepted
-/// start leaves what a start on zeros does. An accepted feed stores its pick and the lift
-/// that is stored for it, and no other letter, code or lift.
+/// The place of a letter's entry.
+fn place_of(letter: u8) -> usize {
+    usize::from(letter - FIRST_PICK)
+}
+
+/// What is refused or only reads changes no byte, a load the lifts alone, and a mark its entry
+/// alone; an accepted start leaves what a start on zeros does, and an accepted going back what
+/// feeding the kept picks does. An accepted feed stores its pick and the lift that is stored
+/// for it, and no other letter, code, lift or mark.
 fn left(board: &Board, call: Call, refused: bool) -> Left {
     match call {
         Call::Start { most_sections } if !refused => {
@@ -100,8 +115,14 @@ fn left(board: &Board, call: Call, refused: bool) -> Left {
             let mut picks = board.stored_picks().map(<[u8]>::to_vec);
             picks[0][board.n()] = pick;
             picks[1][board.n()] = lift_by(&lifts, pick);
-            Left::Bytes(picks, lifts)
+            Left::Arrays(picks, lifts, board.marks())
         }
+        Call::Mark { name } if !refused => {
+            let mut marked = board.clone();
+            marked.marks_mut()[place_of(name)] = board.n() as u16 + 1;
+            Left::State(marked)
+        }
+        Call::Back { name } if !refused => Left::State(shortened(board, name)),
         _ => Left::State(board.clone()),
     }
 }
@@ -111,8 +132,10 @@ impl Left {
     fn is(&self, board: &Board) -> bool {
         match self {
             Left::State(state) => board == state,
-            Left::Bytes([letters, codes], lifts) => {
-                board.stored_picks() == [letters, codes] && board.lifts() == *lifts
+            Left::Arrays([letters, codes], lifts, marks) => {
+                board.stored_picks() == [letters, codes]
+                    && board.lifts() == *lifts
+                    && board.marks() == *marks
             }
         }
     }
@@ -141,11 +164,16 @@ fn named(call: Call, reply: Reply) -> [usize; 2] {
 }
 
 /// The stored n and K after a call: an accepted start stores 0 and its K, an accepted
-/// feed one pick more.
-fn numbers_after(call: Call, reply: Reply, [n, most_sections]: [usize; 2]) -> [usize; 2] {
+/// feed one pick more, an accepted going back the mark's length where n is more.
+fn numbers_after(call: Call, reply: Reply, before: [usize; 2], marks: &Marks) -> [usize; 2] {
+    let [n, most_sections] = before;
     match (call, reply) {
         (Call::Start { most_sections }, Ok(_)) => [0, usize::from(most_sections)],
         (Call::Feed { .. }, Ok(_)) => [n + 1, most_sections],
-        _ => [n, most_sections],
+        (Call::Back { name }, Ok(_)) => {
+            let length = usize::from(marks[place_of(name)]) - 1;
+            [n.min(length), most_sections]
+        }
+        _ => before,
     }
 }

@@ -39,7 +39,7 @@ pub fn some_call(generator: &mut Generator, n: usize) -> String {
     if n == 0 && generator.below(4) == 0 {
         return load(&some_table(generator).bytes());
     }
-    match generator.below(39) {
+    match generator.below(47) {
         0 => format!("start {}", some_number(generator, 10)),
         1..=10 => some_feed(generator),
         11..=12 => format!("mask {}", some_prefix(generator, n)),
@@ -52,6 +52,8 @@ pub fn some_call(generator: &mut Generator, n: usize) -> String {
         31..=33 => some_unfold(generator),
         34 => some_section(generator),
         35 => load(&some_table(generator).bytes()),
+        36..=40 => format!("mark {}", some_name(generator)),
+        41..=43 => format!("back {}", some_name(generator)),
         _ => format!("lift {}", some_number(generator, 100)),
     }
 }
@@ -82,6 +84,15 @@ fn some_feed(generator: &mut Generator) -> String {
         0 => format!("feed {pick} {}", some_number(generator, 24)),
         1 => format!("feed {pick} {}", 17 + generator.below(8)),
         _ => format!("feed {pick}"),
+    }
+}
+
+/// A name: one of the first six letters mostly, so that four of them are soon marks.
+fn some_name(generator: &mut Generator) -> String {
+    match generator.below(12) {
+        0 => some_number(generator, 256),
+        1 => [64, 90, 91, 97][generator.below(4)].to_string(),
+        _ => (65 + generator.below(6)).to_string(),
     }
 }
 

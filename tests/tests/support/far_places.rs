@@ -2,12 +2,16 @@
 
 /// Each place N of each call on the draft ABACDDC, with K = 8: an argument that would be
 /// good where it is cut, and how the call is answered.
-const PLACES: [(&str, u128, &str); 24] = [
+const PLACES: [(&str, u128, &str); 28] = [
     ("start N", 8, "refused 1"),
     ("start N", 0, "refused 1"),
     ("feed N", 65, "refused 2"),
     ("feed N", 0, "refused 2"),
     ("feed N 3", 65, "refused 2"),
+    ("mark N", 65, "refused 2"),
+    ("mark N", 0, "refused 2"),
+    ("back N", 65, "refused 2"),
+    ("back N", 0, "refused 2"),
     ("mask N", 7, "refused 4"),
     ("mask N", 0, "refused 4"),
     ("radius N", 8, "refused 4"),

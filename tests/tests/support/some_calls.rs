@@ -10,8 +10,12 @@ pub fn some_call(generator: &mut Generator, n: usize) -> Call {
     if n == 0 && generator.below(3) == 0 {
         return some_load(generator);
     }
-    match generator.below(27) {
+    match generator.below(31) {
         0 => some_start(generator),
+        27..=29 => some_mark(generator),
+        30 => Call::Back {
+            name: some_name(generator),
+        },
         24 => some_load(generator),
         25..=26 => Call::Lift {
             letter: some_pick(generator),
@@ -67,6 +71,21 @@ fn some_pick(generator: &mut Generator) -> u8 {
         0 => [0, 10, 64, 91, 97, 255][generator.below(6)],
         1 => generator.below(256) as u8,
         at => b"AAAABBBBCZ"[at - 2],
+    }
+}
+
+/// Any letter, or a name as it is gone back to.
+fn some_mark(generator: &mut Generator) -> Call {
+    let any_letter = b'A' + generator.below(26) as u8;
+    let name = [any_letter, some_name(generator)][generator.below(2)];
+    Call::Mark { name }
+}
+
+/// One of four letters mostly.
+fn some_name(generator: &mut Generator) -> u8 {
+    match generator.below(9) {
+        0 => some_pick(generator),
+        at => b"ABCZ"[at % 4],
     }
 }
 

@@ -2,11 +2,8 @@
 
 use comparison::fast::Fast;
 
-/// A word lies unread longer than this many picks.
-const LONG: usize = 300;
-
-/// A visit of a place over 300 picks after the one before: the picks after which the
-/// two are made.
+/// A visit of a place many picks after the one before: the picks after which the two are
+/// made.
 #[derive(Clone, Copy, Debug)]
 pub struct Unread {
     pub place: usize,
@@ -14,15 +11,15 @@ pub struct Unread {
     pub read: usize,
 }
 
-/// Every such visit in the whole draft of n picks.
-pub fn unread_words(fast: &Fast, n: usize) -> Vec<Unread> {
+/// Every visit in the whole draft of n picks that is more than so many after the one before.
+pub fn unread_words(fast: &Fast, n: usize, many: usize) -> Vec<Unread> {
     let mut last: Vec<usize> = (0..=n).collect();
     let mut unread = Vec::new();
     for read in 1..=n {
         for length in fast.visits(read) {
             let place = read - length;
             let left = std::mem::replace(&mut last[place], read);
-            if read > left + LONG {
+            if read > left + many {
                 unread.push(Unread { place, left, read });
             }
         }
@@ -58,6 +55,15 @@ impl Unread {
         let places = self.places(fast);
         let joined = fast.row(places[places.len() - 1]);
         places.len() > 1 && self.mask_when(fast, joined) != fast.mask(self.read)
+    }
+
+    /// Of a visit that joins one row word to the old word, the mask when the old word is
+    /// another; of other visits the mask itself.
+    pub fn mask_by(self, fast: &Fast, old: u16) -> u8 {
+        match *self.places(fast) {
+            [_, .., joined] => self.mask_when(fast, old | fast.row(joined)),
+            _ => fast.mask(self.read),
+        }
     }
 
     /// Whether the visit puts the own row word in place of the old word, and the mask

@@ -7,12 +7,12 @@ use Rattle.drive.proofs.drive.Statement.{statement}
 use Rattle.drive.proofs.drive.Tie as tie
 
 abbrev Inv-loop : tie.InvT-loop
-Inv-loop letters₀ codes₀ lifts₀ centres₀ places₀ numbers₀ script input lists₀ bytes₀ answers₀ at₀ letters codes lifts centres places numbers lists bytes answers at =
-    Inside (stateOf numbers₀ letters₀ codes₀ lifts₀ centres₀ places₀) script (buffers lists₀ bytes₀ input) answers₀
-    at (stateOf numbers letters codes lifts centres places) (buffers lists bytes input) answers
+Inv-loop letters₀ codes₀ lifts₀ marks₀ centres₀ places₀ numbers₀ script input lists₀ bytes₀ answers₀ at₀ letters codes lifts marks centres places numbers lists bytes answers at =
+    Inside (stateOf numbers₀ letters₀ codes₀ lifts₀ marks₀ centres₀ places₀) script (buffers lists₀ bytes₀ input) answers₀
+    at (stateOf numbers letters codes lifts marks centres places) (buffers lists bytes input) answers
 
 abbrev μ-loop : tie.MeasureT-loop
-μ-loop letters₀ codes₀ lifts₀ centres₀ places₀ numbers₀ script input lists₀ bytes₀ answers₀ at₀ letters codes lifts centres places numbers lists bytes answers at =
+μ-loop letters₀ codes₀ lifts₀ marks₀ centres₀ places₀ numbers₀ script input lists₀ bytes₀ answers₀ at₀ letters codes lifts marks centres places numbers lists bytes answers at =
     callsLeft at answers
 
 loop-holds : tie.Need-loop-holds Inv-loop μ-loop
@@ -22,19 +22,19 @@ loop-holds c =
 
 advance-requires : tie.Need-advance-requires Inv-loop μ-loop
 advance-requires c κs =
-    let l = c .before .before .before .before .before .before .before .before .before .before .loop in
+    let l = c .before .before .before .before .before .before .before .before .before .before .before .loop in
     (l .inv .listed, l .inv .written, l .inv .read)
 
 loop-less : tie.Need-loop-less Inv-loop μ-loop
 loop-less c =
     let t = c .before .before .before .before .before .before in
-    let l = t .before .before .before .before .before .before .before .before .before .before in
+    let l = t .before .before .before .before .before .before .before .before .before .before .before in
     fewer-left (l .loop-test .taken) (t .advance .ensures)
 
 loop-again : tie.Need-loop-again Inv-loop μ-loop
 loop-again c =
     let t = c .before .before .before .before .before .before in
-    let l = t .before .before .before .before .before .before .before .before .before .before in
+    let l = t .before .before .before .before .before .before .before .before .before .before .before in
     inside-next (l .before .loop .inv) (l .loop-test .taken) (t .advance .ensures) refl
 
 returns : tie.Need-returns Inv-loop μ-loop

@@ -1,6 +1,7 @@
 use borrow.Author.Needs.{needs}
 use mathlib.Core.Path.{_≡_, refl, _∙_}
-use Prim.Native.Nat.{_-_, _≤_}
+use mathlib.Core.List.{List}
+use Prim.Native.Nat.{ℕ, _-_, _≤_}
 use native.Mathlib.Omega.{arith}
 use lib.ListN.{length}
 use lib.Seq.{take-all}
@@ -13,14 +14,15 @@ use Rattle.speed.proofs.feed_all.Tie as tie
 abbrev Inv-loop : tie.InvT-loop
 Inv-loop letters₀ codes₀ lifts centres₀ places₀ visits₀ picks masks₀ held₀ i₀ letters codes centres places visits masks held i =
     (length visits ≡ length visits₀) × (length masks ≡ length masks₀) × (i ≤ length picks)
-    × Reaches (draftIn (record { n = 0; k = 8; longest = record { 0 = 1 } }) letters₀ codes₀ lifts (byCentre centres₀) (byPlace places₀)) picks masks₀
-    i (draftIn held letters codes lifts (byCentre centres) (byPlace places)) masks
+    × ((marks : List ℕ)
+    → Reaches (draftIn (record { n = 0; k = 8; longest = record { 0 = 1 } }) letters₀ codes₀ lifts marks (byCentre centres₀) (byPlace places₀)) picks masks₀
+    i (draftIn held letters codes lifts marks (byCentre centres) (byPlace places)) masks)
 
 abbrev μ-loop : tie.MeasureT-loop
 μ-loop letters₀ codes₀ lifts centres₀ places₀ visits₀ picks masks₀ held₀ i₀ letters codes centres places visits masks held i = length picks - i
 
 loop-holds : tie.Need-loop-holds Inv-loop μ-loop
-loop-holds c = (refl, refl, omega arith, record { told = _; feeds = none; count = refl; stored = refl })
+loop-holds c = (refl, refl, omega arith, λ marks. record { told = _; feeds = none; count = refl; stored = refl })
 
 add-i : tie.Need-add-i Inv-loop μ-loop
 add-i c =
@@ -40,15 +42,15 @@ loop-again c =
       f .feed .kept .1 .1 .1 .1 .1 .0 ∙ o .inv .0,
       s .store-byte .kept .0 ∙ o .inv .1,
       omega (arith, l .loop-test .taken),
-      reaches-more (a .picks .now) (a .masks .now) (o .i) (m .mask-of .result) (l .loop-test .taken) (o .inv .3) (f .feed .ensures)
+      λ marks. reaches-more (a .picks .now) (a .masks .now) (o .i) (m .mask-of .result) (l .loop-test .taken) (o .inv .3 marks) (f .feed .ensures marks)
           (m .mask-of .ensures) (s .store-byte .ensures),
     )
 
 returns : tie.Need-returns Inv-loop μ-loop
-returns c =
+returns c marks =
     let o = c .before .loop in
     let a = c .before .before .before .before .before .args in
-    let h = o .inv .3 in
+    let h = o .inv .3 marks in
     record {
       held = o .held;
       told = h .told;

@@ -11,9 +11,8 @@ const LIFTS: Lifts = [
     144, 96,
 ];
 
-/// The arrays of no letter: letters, codes and the iterator's are 0.
+/// The iterator's arrays of no letter: all is 0.
 fn clear_iterator(state: &mut State) {
-    state.letters.fill(0);
     state.codes.fill(0);
     state.centres[RADIUS].fill(0);
     state.centres[LENDS].fill(0);
@@ -30,12 +29,24 @@ fn clear_words(state: &mut State) {
     store_at_place(state.places, GATHERED, Place(0), 1);
 }
 
-/// A start with K on whatever is stored: the fixed lifts are in force.
-pub fn start(state: &mut State, sections: usize) -> Answer<()> {
-    start_refusal(sections)?;
+/// The arrays of no letter, but for the letters themselves.
+pub fn clear(state: &mut State) {
     clear_iterator(state);
     clear_words(state);
+}
+
+/// No letter, the fixed table, no mark.
+fn clear_tables(state: &mut State) {
+    state.letters.fill(0);
     *state.lifts = LIFTS;
+    state.marks.fill(0);
+}
+
+/// A start with K on whatever is stored: the fixed lifts are in force, and there is no mark.
+pub fn start(state: &mut State, sections: usize) -> Answer<()> {
+    start_refusal(sections)?;
+    clear_tables(state);
+    clear(state);
     state.numbers = Numbers {
         n: 0,
         k: sections,

@@ -2,11 +2,13 @@
 
 use super::request::Request;
 use super::told::{load_told, next_told, nothing_told, taken_told, value_told, Told};
+use crate::calls::back::back;
 use crate::calls::feed::feed;
 use crate::calls::fold::fold;
 use crate::calls::lift::lift;
 use crate::calls::load::load;
 use crate::calls::longest::longest;
+use crate::calls::mark::mark;
 use crate::calls::mask::mask;
 use crate::calls::next::next;
 use crate::calls::radius::radius;
@@ -78,6 +80,12 @@ fn load_on(state: &mut State, input: &[u8], q: Request) -> Option<Turn> {
     })
 }
 
+/// Marks the draft's length by name b.
+fn mark_on(state: &mut State, q: Request) -> Turn {
+    let marked = mark(state.marks, state.numbers, q.b as u8);
+    plain(nothing_told(marked))
+}
+
 /// The lift of letter b.
 fn lift_on(state: &State, q: Request) -> Turn {
     let lift = lift(state.lifts, state.numbers, q.b as u8);
@@ -128,6 +136,8 @@ pub fn make(
         7 => fold_on(state, bytes, q),
         8 => Some(lift_on(state, q)),
         9 => load_on(state, input, q),
+        10 => Some(mark_on(state, q)),
+        11 => Some(plain(nothing_told(back(state, q.b as u8)))),
         _ => None,
     }
 }

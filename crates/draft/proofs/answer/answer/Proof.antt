@@ -1,5 +1,6 @@
 use borrow.Author.Needs.{needs}
 use mathlib.Core.Path.{refl}
+use mathlib.Core.List.{[]}
 use native.Mathlib.Omega.{arith}
 use Rattle.draft.specs.Filling.{fed-bound, fills}
 use Rattle.draft.proofs.answer.answer.Statement.{statement}
@@ -9,7 +10,7 @@ tell-requires : tie.Need-tell-requires
 tell-requires c κs =
     let f = c .before .before in
     let s = f .before .before .before .before .before .before .before in
-    (s .pre .0, omega (arith, s .pre .0, fed-bound (f .feed .ensures)), s .pre .1)
+    (s .pre .0, omega (arith, s .pre .0, fed-bound (f .feed .ensures [])), s .pre .1)
 
 returns : tie.Need-returns
 returns c =
@@ -17,7 +18,7 @@ returns c =
     let f = t .before .before .before in
     let s = f .before .before .before .before .before .before .before in (
       t .tell .ensures .counts,
-      rw (t .tell .ensures .numbers) (fills (f .feed .ensures) (s .args .held .n) (f .feed .result) (t .tell .result) _ refl refl refl refl (t .tell .ensures)),
+      λ marks. rw (t .tell .ensures .numbers) (fills (f .feed .ensures marks) (s .args .held .n) (f .feed .result) (t .tell .result) _ refl refl refl refl (t .tell .ensures)),
     )
 
 pub answer-spec : {M : Type 1} → statement M

@@ -13,7 +13,7 @@ use Rattle.drive.proofs.make.ask.Tie as tie
 
 returns : tie.Need-returns
 unfolding callOn sourceOf sourceAt
-returns c codes input =
+returns c codes marks input =
     let r = c .before .before .before in
     let t = r .before .before .before .before in
     let s = t .before .before .before in
@@ -25,7 +25,7 @@ returns c codes input =
 
 returns-2 : tie.Need-returns-2
 unfolding callOn sourceOf sourceAt
-returns-2 c codes input =
+returns-2 c codes marks input =
     let r = c .before in
     let t = r .before in
     let s = t .before .before .before in
@@ -37,7 +37,7 @@ returns-2 c codes input =
 
 returns-3 : tie.Need-returns-3
 unfolding callOn sourceOf sourceAt
-returns-3 c codes input =
+returns-3 c codes marks input =
     let r = c .before in
     let t = r .before .before in
     let s = t .before .before .before in
@@ -49,7 +49,7 @@ returns-3 c codes input =
 
 returns-4 : tie.Need-returns-4
 unfolding callOn sourceOf sourceAt
-returns-4 c codes input =
+returns-4 c codes marks input =
     let r = c .before in
     let t = r .before .before in
     let s = t .before .before .before in
@@ -61,7 +61,7 @@ returns-4 c codes input =
 
 returns-5 : tie.Need-returns-5
 unfolding callOn sourceOf sourceAt
-returns-5 c codes input =
+returns-5 c codes marks input =
     let r = c .before in
     let t = r .before .before .before in
     let s = t .before .before .before in
@@ -73,7 +73,7 @@ returns-5 c codes input =
 
 returns-6 : tie.Need-returns-6
 unfolding callOn sourceOf sourceAt
-returns-6 c codes input =
+returns-6 c codes marks input =
     let r = c .before .before .before in
     let t = r .before .before .before .before in
     let s = t .before .before .before in
@@ -85,7 +85,7 @@ returns-6 c codes input =
 
 returns-7 : tie.Need-returns-7
 unfolding callOn sourceOf sourceAt
-returns-7 c codes input =
+returns-7 c codes marks input =
     let r = c .before in
     let t = r .before in
     let s = t .before .before .before in

@@ -21,23 +21,23 @@ fitted : (t : tie.Then1) → Fits (begin (t .before) .args .q .op) (t .before .b
 fitted t = fits-true _ _ _ (sym (t .before .fits2 .ensures) ∙ t .if1 .taken)
 
 slice-aggregate-call : tie.Need-slice-aggregate-call
-slice-aggregate-call c = sym (length-take-le _ _ (fitted (c .before .before .before .before .before .before) .input))
+slice-aggregate-call c = sym (length-take-le _ _ (fitted (c .before .before .before .before .before .before .before) .input))
 
 slice-relend-prefix-call : tie.Need-slice-relend-prefix-call
-slice-relend-prefix-call c = fitted (c .before .before .before .before .before .before) .entries
+slice-relend-prefix-call c = fitted (c .before .before .before .before .before .before .before) .entries
 
 slice-aggregate-call-2 : tie.Need-slice-aggregate-call-2
-slice-aggregate-call-2 c = sym (length-take-le _ _ (fitted (c .before .before .before .before .before .before .before) .entries))
+slice-aggregate-call-2 c = sym (length-take-le _ _ (fitted (c .before .before .before .before .before .before .before .before) .entries))
 
 slice-relend-prefix-call-2 : tie.Need-slice-relend-prefix-call-2
-slice-relend-prefix-call-2 c = fitted (c .before .before .before .before .before .before .before) .output
+slice-relend-prefix-call-2 c = fitted (c .before .before .before .before .before .before .before .before) .output
 
 slice-aggregate-call-3 : tie.Need-slice-aggregate-call-3
-slice-aggregate-call-3 c = sym (length-take-le _ _ (fitted (c .before .before .before .before .before .before .before .before) .output))
+slice-aggregate-call-3 c = sym (length-take-le _ _ (fitted (c .before .before .before .before .before .before .before .before .before) .output))
 
 call-requires : tie.Need-call-requires
 call-requires c κs =
-    let t = c .before .before .before .before .before .before .before .before in
+    let t = c .before .before .before .before .before .before .before .before .before in
     let g = fitted t in
     record {
       known = g .known;
@@ -48,11 +48,11 @@ call-requires c κs =
 returns : tie.Need-returns
 returns c =
     let r = c .before .before .before .before .before in
-    let t = r .before .before .before .before .before .before .before .before .before in
+    let t = r .before .before .before .before .before .before .before .before .before .before in
     let x = t .before in
     let z = x .before .sizes-of .result in
     let g = fitted t in
-    let k = r .call .kept .1 .1 .1 .1 .1 .1 in
+    let k = r .call .kept .1 .1 .1 .1 .1 .1 .1 in
     rw (c .tried-as .ensures, ← (sized x))
     (tries-one (begin x .args .q) (left x) (r .call .result .told) (r .call .result .numbers) z (sized x) (sym (x .fits2 .ensures) ∙ t .if1 .taken)
     (k .0 ∙ length-take-le _ _ (g .entries)) (k .1 .0 ∙ length-take-le _ _ (g .output)) (r .call .ensures))

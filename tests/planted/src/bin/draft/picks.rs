@@ -42,6 +42,7 @@ pub fn run(input: &mut Input, output: &mut impl Write, k: usize) {
         letters: &mut [0; PICKS],
         codes: &mut [0; PICKS],
         lifts: &mut [0; ALPHABET],
+        marks: &mut [0; ALPHABET],
         centres: &mut [[0; 2 * PICKS + 2]; 4],
         places: &mut [[0; PICKS + 1]; 3],
     };
