@@ -39,20 +39,21 @@ enum { BOARD_HEADS_LANE, BOARD_ROWS_LANE, BOARD_GATHERED_LANE, BOARD_PLACE_LANES
 // The numbers of the state: the count of picks, K, the centre of the longest ending.
 enum { BOARD_N, BOARD_K, BOARD_LONGEST, BOARD_NUMBERS };
 
-// The calls by their numbers in a script.
+// The calls by their numbers in a script: those that write the state, and from 16 on those that only read it. Numbers
+// from BOARD_CALLS on are no calls, nor are those between.
 enum {
     BOARD_START_CALL,
     BOARD_FEED_CALL,
-    BOARD_SPLIT_CALL,
+    BOARD_LOAD_CALL,
+    BOARD_MARK_CALL,
+    BOARD_BACK_CALL,
+    BOARD_SPLIT_CALL = 16,
     BOARD_LONGEST_CALL,
     BOARD_MASK_CALL,
     BOARD_RADIUS_CALL,
     BOARD_NEXT_CALL,
     BOARD_RECORD_CALL,
     BOARD_LIFT_CALL,
-    BOARD_LOAD_CALL,
-    BOARD_MARK_CALL,
-    BOARD_BACK_CALL,
     BOARD_CALLS
 };
 
@@ -214,8 +215,8 @@ static inline void board_write_call(uint8_t call[BOARD_CALL_SIZE], size_t number
     call[5] = (uint8_t)(m >> 8);
 }
 
-// What is lent to a call beside the state: a list, an output, an input, which is only read, or nothing. A null pointer
-// lends nothing, whatever is said of its size.
+// What is lent to a call beside the state: a list or an output to fill, an input to read, or nothing. A null pointer
+// lends nothing, whatever is said of its size. m is the call's last number: how much of that is lent, or another.
 struct board_lent {
     uint16_t *list;
     size_t entries;
@@ -223,6 +224,7 @@ struct board_lent {
     size_t bytes;
     const uint8_t *input;
     size_t input_bytes;
+    size_t m;
 };
 
 // What one call answered: 0 and the values, or the number and the place that it names.
@@ -243,7 +245,7 @@ static inline struct board_reply board_make(struct board *board, size_t call_num
     struct board_reply reply = {0, 0, 0, 0, 0};
     size_t entries = lent.list ? lent.entries : 0, bytes = lent.output ? lent.bytes : 0;
     size_t input_bytes = lent.input ? lent.input_bytes : 0;
-    board_write_call(call, call_number, b, x, entries ? entries : bytes ? bytes : input_bytes);
+    board_write_call(call, call_number, b, x, lent.m);
     drive(board->letters, board->codes, board->lifts, board->marks, board->centres, board->places, board->numbers, call,
           sizeof call, lent.input ? lent.input : &no_input, input_bytes, lent.list ? lent.list : &no_entry, entries,
           lent.output ? lent.output : &no_byte, bytes, answer, BOARD_ANSWER_SIZE);
@@ -259,22 +261,22 @@ static inline struct board_reply board_make(struct board *board, size_t call_num
 }
 
 static inline struct board_lent board_nothing(void) {
-    struct board_lent lent = {NULL, 0, NULL, 0, NULL, 0};
+    struct board_lent lent = {NULL, 0, NULL, 0, NULL, 0, 0};
     return lent;
 }
 
 static inline struct board_lent board_list(uint16_t *list, size_t entries) {
-    struct board_lent lent = {list, entries, NULL, 0, NULL, 0};
+    struct board_lent lent = {list, entries, NULL, 0, NULL, 0, list ? entries : 0};
     return lent;
 }
 
 static inline struct board_lent board_output(uint8_t *output, size_t bytes) {
-    struct board_lent lent = {NULL, 0, output, bytes, NULL, 0};
+    struct board_lent lent = {NULL, 0, output, bytes, NULL, 0, output ? bytes : 0};
     return lent;
 }
 
 static inline struct board_lent board_input(const uint8_t *input, size_t bytes) {
-    struct board_lent lent = {NULL, 0, NULL, 0, input, bytes};
+    struct board_lent lent = {NULL, 0, NULL, 0, input, bytes, input ? bytes : 0};
     return lent;
 }
 

@@ -329,7 +329,7 @@ impl Board {
     /// ```
     /// # use board::{Board, ANSWER_NUMBERS};
     /// let mut board = Board::new();
-    /// let start_and_longest = [0, 8, 0, 0, 0, 0, 3, 0, 0, 0, 0, 0];
+    /// let start_and_longest = [0, 8, 0, 0, 0, 0, 17, 0, 0, 0, 0, 0];
     /// let mut answers = [0; 2 * ANSWER_NUMBERS];
     /// assert_eq!(board.drive(&start_and_longest, &[], &mut [], &mut [], &mut answers), 2);
     /// assert_eq!(answers, [0, 0, 0, 0, 0, 1, 0, 0]);

@@ -9,19 +9,21 @@ pub const CALL_BYTES: usize = 6;
 /// and the place that it names. Zeros behind them.
 pub const ANSWER_NUMBERS: usize = 4;
 
-/// The calls by their numbers in a script.
+/// The calls that write the state, by their numbers in a script.
 pub(crate) const START: u8 = 0;
 pub(crate) const FEED: u8 = 1;
-pub(crate) const SPLIT: u8 = 2;
-pub(crate) const LONGEST_ENDING: u8 = 3;
-pub(crate) const MASK: u8 = 4;
-pub(crate) const RADIUS_AT: u8 = 5;
-pub(crate) const NEXT_SHORTER: u8 = 6;
-pub(crate) const RECORD: u8 = 7;
-pub(crate) const LIFT: u8 = 8;
-pub(crate) const LOAD: u8 = 9;
-pub(crate) const MARK: u8 = 10;
-pub(crate) const BACK: u8 = 11;
+pub(crate) const LOAD: u8 = 2;
+pub(crate) const MARK: u8 = 3;
+pub(crate) const BACK: u8 = 4;
+
+/// Those that only read it, from 16 on.
+pub(crate) const SPLIT: u8 = 16;
+pub(crate) const LONGEST_ENDING: u8 = 17;
+pub(crate) const MASK: u8 = 18;
+pub(crate) const RADIUS_AT: u8 = 19;
+pub(crate) const NEXT_SHORTER: u8 = 20;
+pub(crate) const RECORD: u8 = 21;
+pub(crate) const LIFT: u8 = 22;
 
 /// The number in a field of one byte: 255 for a larger one.
 fn byte(number: usize) -> u8 {

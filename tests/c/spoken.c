@@ -207,6 +207,9 @@ static void show(void) {
         memcpy(ends, read, count * sizeof *ends);
     struct board_show_answer answer = board_show(letters.bytes, said(letters.length), ends, said(count), s);
     print_number(answer.number, answer.len != 0);
+    // Letters may be alike, so the place is looked at too: behind the section before it.
+    if (answer.part != letters.bytes + (answer.number || s < 2 ? 0 : ends[s - 2]))
+        abort();
     if (!answer.number)
         print_text(answer.part, answer.len);
     free(letters.bytes);

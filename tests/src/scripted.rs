@@ -56,16 +56,16 @@ impl Call {
         let (number, byte, at, lent) = match self {
             Call::Start { most_sections } => (0, most_sections, 0, 0),
             Call::Feed { pick, entries } => (1, pick, 0, entries),
-            Call::Split { prefix, k, entries } => (2, k, prefix, entries),
-            Call::LongestCentre => (3, 0, 0, 0),
-            Call::Mask { prefix } => (4, 0, prefix, 0),
-            Call::Radius { centre } => (5, 0, centre, 0),
-            Call::NextEnding { centre } => (6, 0, centre, 0),
-            Call::Record { prefix, k, bytes } => (7, k, prefix, bytes),
-            Call::Lift { letter } => (8, letter, 0, 0),
-            Call::Load { table } => (9, 0, 0, table.length),
-            Call::Mark { name } => (10, name, 0, 0),
-            Call::Back { name } => (11, name, 0, 0),
+            Call::Load { table } => (2, 0, 0, table.length),
+            Call::Mark { name } => (3, name, 0, 0),
+            Call::Back { name } => (4, name, 0, 0),
+            Call::Split { prefix, k, entries } => (16, k, prefix, entries),
+            Call::LongestCentre => (17, 0, 0, 0),
+            Call::Mask { prefix } => (18, 0, prefix, 0),
+            Call::Radius { centre } => (19, 0, centre, 0),
+            Call::NextEnding { centre } => (20, 0, centre, 0),
+            Call::Record { prefix, k, bytes } => (21, k, prefix, bytes),
+            Call::Lift { letter } => (22, letter, 0, 0),
         };
         let ([at_low, at_high], [lent_low, lent_high]) = (at.to_le_bytes(), lent.to_le_bytes());
         [number, byte, at_low, at_high, lent_low, lent_high]

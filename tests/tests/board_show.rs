@@ -44,6 +44,29 @@ fn every_list(count: usize, most: u16) -> Vec<Vec<u16>> {
     })
 }
 
+/// The package hands back that part of the letters itself: where all letters are alike only
+/// the address tells which section it is.
+#[test]
+fn the_part_stands_where_its_section_does() {
+    let letters = [b'A'; 6];
+    let second = board::show(&letters[..4], &[2, 4], 2).expect("section 2");
+    assert_eq!(second.as_ptr_range(), letters[2..4].as_ptr_range());
+    let mut shown = 0;
+    for count in 1..=4 {
+        for ends in every_list(count, 6) {
+            for s in 1..=count {
+                let expected = calls::show(&letters, &ends, s);
+                if let Ok(part) = board::show(&letters, &ends, s) {
+                    let (part, expected) = (part.as_ptr_range(), expected.as_ptr_range());
+                    assert_eq!(part, expected, "ends {ends:?}, s {s}");
+                    shown += 1;
+                }
+            }
+        }
+    }
+    assert_eq!(shown, 1 + 2 * 5 + 3 * 10 + 4 * 10, "sections of 6 letters");
+}
+
 /// 4: s of 0 and 1, the count and one above it, and the greatest number.
 #[test]
 fn number_4() {

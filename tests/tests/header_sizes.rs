@@ -16,7 +16,7 @@ use std::process::id;
 /// The Rattle sources that the header repeats.
 const SOURCES: [&str; 4] = [
     "../crates/cells/src/lib.rt",
-    "../crates/drive/src/make.rt",
+    "../crates/drive/src/numbers.rt",
     "../crates/drive/src/request.rt",
     "../crates/drive/src/lib.rt",
 ];
@@ -41,9 +41,27 @@ const CONSTANTS: [(&str, &str, usize); 16] = [
     ("ANSWER_SIZE", "BOARD_ANSWER_SIZE", board::ANSWER_NUMBERS),
 ];
 
-/// What follows from the sizes of the Rattle types, in C.
-const LAYOUT: [&str; 25] = [
-    "(size_t)BOARD_CALLS == CALLS",
+/// Each call's number in Rattle and in the header.
+const CALLS: [(&str, &str); 12] = [
+    ("START", "BOARD_START_CALL"),
+    ("FEED", "BOARD_FEED_CALL"),
+    ("LOAD", "BOARD_LOAD_CALL"),
+    ("MARK", "BOARD_MARK_CALL"),
+    ("BACK", "BOARD_BACK_CALL"),
+    ("SPLIT", "BOARD_SPLIT_CALL"),
+    ("LONGEST_ENDING", "BOARD_LONGEST_CALL"),
+    ("MASK", "BOARD_MASK_CALL"),
+    ("RADIUS_AT", "BOARD_RADIUS_CALL"),
+    ("NEXT_SHORTER", "BOARD_NEXT_CALL"),
+    ("RECORD", "BOARD_RECORD_CALL"),
+    ("LIFT", "BOARD_LIFT_CALL"),
+];
+
+/// What follows from the counts of the calls and the sizes of the Rattle types, in C.
+const LAYOUT: [&str; 27] = [
+    "BOARD_BACK_CALL + 1 == WRITING_CALLS",
+    "(size_t)BOARD_SPLIT_CALL == FIRST_QUERY",
+    "(size_t)BOARD_CALLS == FIRST_QUERY + QUERIES",
     "BOARD_CENTRES == sizeof(ByCentre) / sizeof(uint16_t)",
     "BOARD_PLACES == sizeof(ByPlace) / sizeof(uint16_t)",
     "BOARD_RECORD == PICKS / 2 + 7 * SECTIONS + 8",
@@ -112,8 +130,10 @@ fn sources() -> String {
 /// sources and all that must hold; nothing where it takes it.
 fn refusal(sources: &str, name: &str) -> Option<String> {
     let constants = CONSTANTS.map(|(rattle, header, _)| format!("(size_t){header} == {rattle}"));
+    let calls = CALLS.map(|(rattle, header)| format!("(size_t){header} == {rattle}"));
     let layout = LAYOUT.map(String::from);
-    let facts = constants.into_iter().chain(layout).chain(of_rust());
+    let numbers = constants.into_iter().chain(calls);
+    let facts = numbers.chain(layout).chain(of_rust());
     let facts = facts.map(|fact| format!("_Static_assert({fact}, \"{fact}\");\n"));
     let (declared, asserted) = (declarations(sources), facts.collect::<String>());
     let path = folder().join(format!("header_sizes_{name}_{}.c", id()));
@@ -183,11 +203,10 @@ fn assert_refused(changed: &str, name: &str, said: &str) {
 #[test]
 fn a_changed_constant_is_refused() {
     let sources = sources();
-    let constants = CONSTANTS
-        .map(|(name, _, _)| name)
-        .into_iter()
-        .chain(["CALLS"]);
-    for name in constants {
+    let constants = CONSTANTS.map(|(name, _, _)| name).into_iter();
+    let calls = CALLS.map(|(name, _)| name).into_iter();
+    let counts = ["WRITING_CALLS", "FIRST_QUERY", "QUERIES"];
+    for name in constants.chain(calls).chain(counts) {
         let line = format!("const {name}: ");
         let (_, behind) = sources.split_once(&line).expect(name);
         let (old, _) = behind.split_once(';').expect("the end of the constant");

@@ -175,11 +175,11 @@ module _ {numbers numbers' answers answers' : List ℕ} {s : Buffers} {at r : Cu
 -- the request at a cursor is the next call's
 pub advances-at : (script : List ℕ) (s : Buffers) (answers : List ℕ) (at : Cursor) {q : Request} {d e : Draft} {r : Cursor} {lists' bytes' answers' : List ℕ}
     → Requests (scriptAt script at) (length answers - answerSize * at .made) q
-    → Advances d (sizesFor (q .op) (q .m)) s answers at r e lists' bytes' answers' (requested q (leftAt s at))
+    → Advances d (sizesFor (q .op) (q .x) (q .m)) s answers at r e lists' bytes' answers' (requested q (leftAt s at))
     → AdvancesAt script s answers at r d e lists' bytes' answers'
 advances-at script s answers at {q} {d} {e} {r} {lists'} {bytes'} {answers'} h f = rw (← (requests-called h (leftAt s at))) (go (requested q (leftAt s at)) refl f)
   where
-    go : (o : Option Call) → requested q (leftAt s at) ≡ o → Advances d (sizesFor (q .op) (q .m)) s answers at r e lists' bytes' answers' o
+    go : (o : Option Call) → requested q (leftAt s at) ≡ o → Advances d (sizesFor (q .op) (q .x) (q .m)) s answers at r e lists' bytes' answers' o
         → Advances d (nextSizes (scriptAt script at)) s answers at r e lists' bytes' answers' o
     go none i (halts g) = halts g
     go (some c) i (goes g) = goes (subst (λ z. Goes d c z s answers at r e lists' bytes' answers') (requests-sizes h (leftAt s at) i) g)

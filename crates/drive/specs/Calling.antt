@@ -1,12 +1,13 @@
 -- One call of a script: what the code promises of it.
 use mathlib.Core.Path.{_≡_, refl, sym, ap, _∙_}
-use mathlib.Core.Bool.{true, false, cond, and-eq-true-iff}
+use mathlib.Core.Bool.{Bool, true, false, cond, _||_, and-eq-true-iff}
+use mathlib.Core.Logic.{_≢_}
 use mathlib.Core.List.{List, [], _++_}
 use mathlib.Core.Option.{Option, some, none}
 use Prim.Native.Nat.{ℕ, _≤_, _<_}
-use lib.Dec.{leb, ltb}
+use lib.Dec.{eqb, leb}
 use lib.ListN.{length, drop}
-use borrow.Author.Tests.{leb-true, ltb-true, le-leb, lt-ltb}
+use borrow.Author.Tests.{leb-true, le-leb, ne-eqb}
 use Rattle.cells.specs.declared.Numbers.{Numbers}
 use Rattle.promises.specs.declared.Draft.{Draft}
 use Rattle.promises.specs.declared.StartAnswer.{StartAnswer}
@@ -18,10 +19,10 @@ use Rattle.promises.specs.Book.{Query, Call, start, feed, load, mark, back, ask
 use Rattle.promises.specs.Promises.{StartPromise, FeedPromise, LoadPromise, MarkPromise, BackPromise, Reads}
 use Rattle.promises.specs.Lent.{startedAs, fedAs, loadedAs, markedAs}
 use Rattle.promises.specs.Runs.{Made, started, fed, loaded, marked, returned, asked, callOf, replyOf, Meets, leaves}
-use Rattle.drive.specs.Script.{Buffers, buffers, callOn, sourceOf, ofLists, ofBytes, listFrom, sizesFor, callCount, fits, fitsIn, parts, callFor}
+use Rattle.drive.specs.Script.{Buffers, isCall, callOn, ofLists, ofBytes, ofInput, ofListsAndInput, sourceOf, fillsLists, fillsBytes, listFrom, sizesOf, sizesFor, fits, fitsIn, parts, callFor}
 use Rattle.drive.specs.declared.lending.Sizes.{Sizes}
 use Rattle.drive.specs.Drives.{encoded, answersOf, entriesOf, bytesOf}
-use Rattle.drive.specs.Told.{numbersOf}
+use Rattle.drive.specs.Told.{numbersOf, toldGiven}
 use Rattle.drive.specs.Requests.{requested}
 use Rattle.drive.specs.Parts.{Lends}
 use Rattle.drive.specs.declared.told.Told.{Told}
@@ -40,23 +41,22 @@ pub record Makes (d : Draft) (c : Call) (told : Told) (e : Draft) (list output :
 
 -- a request is lent so much
 pub record Lent (q : Request) (list output : List ℕ) : Type 0 where
-  pub known : q .op < callCount
-  pub entries : length list ≡ sizesFor (q .op) (q .m) .entries
-  pub bytes : length output ≡ sizesFor (q .op) (q .m) .output
+  pub known : isCall (q .op) ≡ true
+  pub entries : length list ≡ sizesFor (q .op) (q .x) (q .m) .entries
+  pub bytes : length output ≡ sizesFor (q .op) (q .x) (q .m) .output
 
 -- the call of a request on what it is lent; list' and output' are as at exit
 abbrev pub Answers : Draft → Request → (part : Buffers) → Told → Draft → (list' output' : List ℕ) → Type 0
-Answers d q part told e list' output' = Makes d (callOn (q .op) (q .b) (q .x) part) told e list' output'
+Answers d q part told e list' output' = Makes d (callOn (q .op) (q .b) (q .x) (q .m) part) told e list' output'
 
--- that of a query, which is lent neither codes nor marks nor input: whatever they are
-abbrev pub Queried : (state : (codes marks : List ℕ) → Draft) → Request → (list output : List ℕ) → Told → (list' output' : List ℕ) → Type 0
-Queried state q list output told list' output' =
-    (codes marks input : List ℕ) → Answers (state codes marks) q (buffers list output input) told (state codes marks) list' output'
+-- that of a query, which is lent neither codes nor marks: whatever they are
+abbrev pub Queried : (state : (codes marks : List ℕ) → Draft) → Request → (part : Buffers) → Told → (list' output' : List ℕ) → Type 0
+Queried state q part told list' output' = (codes marks : List ℕ) → Answers (state codes marks) q part told (state codes marks) list' output'
 
 -- Each kind of call
 
 pub query-makes : {d : Draft} {told : Told} {list output : List ℕ} (q : Query) (r : Reply) → Reads d q r → numbersOf told ≡ encoded (r .said)
-    → list ≡ listFrom ofLists (ask q) (r .list) → output ≡ listFrom ofBytes (ask q) (r .list) → Makes d (ask q) told d list output
+    → list ≡ listFrom fillsLists (ask q) (r .list) → output ≡ listFrom fillsBytes (ask q) (r .list) → Makes d (ask q) told d list output
 unfolding Meets callOf leaves replyOf
 query-makes q r p s l o = record { made = asked q r; meets = p; call = refl; left = refl; says = s; entries = l; bytes = o }
 
@@ -91,24 +91,38 @@ unfolding Meets callOf leaves replyOf sourceOf
 back-makes {d} {e} {name} {answer} p s l o =
     record { made = returned name (markedAs answer e); meets = p; call = refl; left = refl; says = s; entries = l; bytes = o }
 
+-- What is lent
+
+pub sizes-both : (source x m : ℕ) → source ≡ ofListsAndInput → record { entries = m; output = 0; input = x } ≡ sizesOf source x m
+sizes-both source x m e = rw e
+
+or-none : (b : Bool) → (b || false) ≡ b
+or-none true = refl
+or-none false = refl
+
+-- and of any other source: by each of the three
+pub sizes-one : (source x m : ℕ) → source ≢ ofListsAndInput
+    → record { entries = cond (eqb source ofLists) m 0; output = cond (eqb source ofBytes) m 0; input = cond (eqb source ofInput) m 0 } ≡ sizesOf source x m
+sizes-one source x m f = simp (ne-eqb source ofListsAndInput f, or-none)
+
 -- What fits
 
 pub record Fits (op : ℕ) (z : Sizes) (left : Buffers) : Type 0 where
-  pub known : op < callCount
+  pub known : isCall op ≡ true
   pub entries : z .entries ≤ length (left .lists)
   pub output : z .output ≤ length (left .bytes)
   pub input : z .input ≤ length (left .input)
 
-pub fits-last : (op : ℕ) (z : Sizes) (lists bytes input : ℕ) → op < callCount → z .entries ≤ lists → z .output ≤ bytes
+pub fits-last : (op : ℕ) (z : Sizes) (lists bytes input : ℕ) → isCall op ≡ true → z .entries ≤ lists → z .output ≤ bytes
     → leb (z .input) input ≡ fits op z lists bytes input
-fits-last op z lists bytes input a b c = rw (lt-ltb op callCount a, le-leb (z .entries) lists b, le-leb (z .output) bytes c)
+fits-last op z lists bytes input a b c = rw (a, le-leb (z .entries) lists b, le-leb (z .output) bytes c)
 
 pub fits-true : (op : ℕ) (z : Sizes) (left : Buffers) → fitsIn op z left ≡ true → Fits op z left
 fits-true op z left e =
-    let a = and-eq-true-iff (ltb op callCount) _ .0 e in
+    let a = and-eq-true-iff (isCall op) _ .0 e in
     let b = and-eq-true-iff (leb (z .entries) (length (left .lists))) _ .0 (a .1) in
     let c = and-eq-true-iff (leb (z .output) (length (left .bytes))) (leb (z .input) (length (left .input))) .0 (b .1) in
-    record { known = ltb-true _ _ (a .0); entries = leb-true _ _ (b .0); output = leb-true _ _ (c .0); input = leb-true _ _ (c .1) }
+    record { known = a .0; entries = leb-true _ _ (b .0); output = leb-true _ _ (c .0); input = leb-true _ _ (c .1) }
 
 -- The next call, of what is left to lend
 
@@ -140,7 +154,7 @@ pub data Tries (d : Draft) (z : Sizes) (left : Buffers) (t : Tried) (e : Draft) 
 
 -- by a request: d and e are the states before and after it
 abbrev pub TriesFor : (q : Request) (left : Buffers) (t : Tried) (d e : Draft) (lists' bytes' : List ℕ) → Type 0
-TriesFor q left t d e lists' bytes' = Tries d (sizesFor (q .op) (q .m)) left t e lists' bytes' (requested q left)
+TriesFor q left t d e lists' bytes' = Tries d (sizesFor (q .op) (q .x) (q .m)) left t e lists' bytes' (requested q left)
 
 -- as the code has it
 abbrev pub triedAs : Told → Numbers → Sizes → Tried
@@ -149,19 +163,19 @@ triedAs told numbers z =
 
 abbrev pub noneTried : Numbers → Tried
 noneTried held =
-    record { made = false; told = record { kind = 0; first = 0; second = 0; third = 0 }; numbers = held; entries = 0; output = 0; input = 0 }
+    record { made = false; told = toldGiven 0 0; numbers = held; entries = 0; output = 0; input = 0 }
 
-called-on : (q : Request) (left : Buffers) (z : Sizes) → z ≡ sizesFor (q .op) (q .m)
-    → requested q left ≡ cond (fitsIn (q .op) z left) (some (callOn (q .op) (q .b) (q .x) (parts z left))) none
+called-on : (q : Request) (left : Buffers) (z : Sizes) → z ≡ sizesFor (q .op) (q .x) (q .m)
+    → requested q left ≡ cond (fitsIn (q .op) z left) (some (callOn (q .op) (q .b) (q .x) (q .m) (parts z left))) none
 unfolding callFor
-called-on q left z e = ap (λ y. cond (fitsIn (q .op) y left) (some (callOn (q .op) (q .b) (q .x) (parts y left))) none) (sym e)
+called-on q left z e = ap (λ y. cond (fitsIn (q .op) y left) (some (callOn (q .op) (q .b) (q .x) (q .m) (parts y left))) none) (sym e)
 
-pub tries-none : {d : Draft} {held : Numbers} (q : Request) (left : Buffers) (z : Sizes) → z ≡ sizesFor (q .op) (q .m) → fitsIn (q .op) z left ≡ false
+pub tries-none : {d : Draft} {held : Numbers} (q : Request) (left : Buffers) (z : Sizes) → z ≡ sizesFor (q .op) (q .x) (q .m) → fitsIn (q .op) z left ≡ false
     → TriesFor q left (noneTried held) d d (left .lists) (left .bytes)
 tries-none q left z is f = rw (called-on q left z is, f) (stays (record { ends = refl; state = refl; entries = refl; output = refl }))
 
 pub tries-one : {d e : Draft} (q : Request) (left : Buffers) (told : Told) (numbers : Numbers) {list output : List ℕ} (z : Sizes)
-    → z ≡ sizesFor (q .op) (q .m) → fitsIn (q .op) z left ≡ true → length list ≡ z .entries → length output ≡ z .output
+    → z ≡ sizesFor (q .op) (q .x) (q .m) → fitsIn (q .op) z left ≡ true → length list ≡ z .entries → length output ≡ z .output
     → Answers d q (parts z left) told e list output
     → Tries d z left (triedAs told numbers z) e (list ++ drop (z .entries) (left .lists)) (output ++ drop (z .output) (left .bytes)) (requested q left)
 tries-one q left told numbers z is f l o a =

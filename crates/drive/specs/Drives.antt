@@ -9,7 +9,7 @@ use Rattle.promises.specs.declared.Draft.{Draft}
 use Rattle.promises.specs.Answers.{Said, gave, refused, refusedAt, filled}
 use Rattle.promises.specs.State.{draftIn}
 use Rattle.promises.specs.Runs.{Made, callOf, calls, replyOf, Run, last}
-use Rattle.drive.specs.Script.{Buffers, ofLists, ofBytes, listFrom, asked}
+use Rattle.drive.specs.Script.{Buffers, fillsLists, fillsBytes, listFrom, asked}
 
 -- n, K and the centre of the longest ending, each as it is stored
 abbrev pub heldIn : (numbers : List ℕ) → Numbers
@@ -34,10 +34,10 @@ abbrev pub answersOf : Made → List ℕ
 answersOf m = encoded (replyOf m .said)
 
 abbrev pub entriesOf : Made → List ℕ
-entriesOf m = listFrom ofLists (callOf m) (replyOf m .list)
+entriesOf m = listFrom fillsLists (callOf m) (replyOf m .list)
 
 abbrev pub bytesOf : Made → List ℕ
-bytesOf m = listFrom ofBytes (callOf m) (replyOf m .list)
+bytesOf m = listFrom fillsBytes (callOf m) (replyOf m .list)
 
 -- one behind the other
 unfoldable pub joined : (Made → List ℕ) → List Made → List ℕ

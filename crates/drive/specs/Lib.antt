@@ -1,7 +1,7 @@
 -- for a reader
 pub mod Script
 pub mod Drives
-pub mod Opening
+pub mod Session
 -- laws
 pub mod Parts
 pub mod Told

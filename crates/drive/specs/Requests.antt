@@ -1,23 +1,27 @@
 -- The next call as the code reads it.
 use mathlib.Core.Path.{_≡_, refl, sym, _∙_}
-use mathlib.Core.Bool.{Bool, true, false, cond}
-use mathlib.Core.List.{List, [], _∷_, map}
+use mathlib.Core.Bool.{Bool, true, false, cond, _&&_, _||_, and-eq-true-iff}
+use mathlib.Core.List.{List, [], _∷_}
 use mathlib.Core.Option.{Option, some, none}
-use Prim.Native.Nat.{ℕ, zero, suc, _≤_, _<_}
+use Prim.Native.Nat.{ℕ, zero, suc, _+_, _-_, _≤_, _<_}
 use native.Mathlib.Omega.{arith}
-use native.Mathlib.Decide.{decLt}
-use borrow.Author.Tests.{le-leb, lt-leb}
-use lib.Dec.{leb}
-use lib.ListN.{length, getD}
+use native.Mathlib.Decide.{decLt, ℕ-discrete}
+use borrow.Author.Tests.{le-leb, lt-leb, lt-ltb, le-ltb, ltb-true, eqb-true, ne-eqb}
+use lib.Dec.{eqb, leb}
+use lib.ListN.{length, getD, List·getD-eq-default}
 use Rattle.words.specs.Cases.{clash}
-use Rattle.promises.specs.Book.{Call, ask, longest}
-use Rattle.drive.specs.Script.{Buffers, buffers, numbered, callCount, callOn, sourceOf, sourceAt, pair, sizesFor, callFor, callSize, nextCall, nextSizes}
+use Rattle.promises.specs.Book.{Call, longest}
+use Rattle.drive.specs.Script.{Buffers, buffers, asking, firstQuery, writingCount, queryCount, counted, isCall, callOn, nothing, sourceAt, pair, sizesFor, callFor, callSize, nextCall, nextSizes}
 use Rattle.drive.specs.Drives.{answerSize}
 use Rattle.drive.specs.declared.request.Request.{Request}
 
+-- a number that no call has
+abbrev pub noCall : ℕ
+noCall = 255
+
 -- no call
 abbrev pub ended : Request
-ended = record { op = callCount; b = 0; x = 0; m = 0 }
+ended = record { op = noCall; b = 0; x = 0; m = 0 }
 
 -- the call of the first six bytes
 abbrev pub requestOf : (script : List ℕ) → Request
@@ -68,29 +72,77 @@ requests-called (over e f) left = rw e (ends left ∙ sym (f left))
 
 -- where a call is made, it is lent as much as its bytes say
 pub requests-sizes : {script : List ℕ} {room : ℕ} {q : Request} → Requests script room q → (left : Buffers) {c : Call} → requested q left ≡ some c
-    → sizesFor (q .op) (q .m) ≡ nextSizes script
+    → sizesFor (q .op) (q .x) (q .m) ≡ nextSizes script
 requests-sizes (here e s r) left f = rw e
 requests-sizes {q = q} (over e g) left {c} f = let z : none ≡ some c = sym (ends left) ∙ rw e at f in clash (cc z)
 
--- The sources of the calls, one after the other
+-- What calls are lent that are not named: nothing, by one test over all numbers
 
-source-of : (cs : List Call) (op : ℕ) → getD (map sourceOf cs) op (sourceOf (ask longest)) ≡ sourceOf (getD cs op (ask longest))
-source-of [] op = refl
-source-of (c ∷ cs) zero = refl
-source-of (c ∷ cs) (suc op) = source-of cs op
+abbrev pub named : (op : ℕ) → List ℕ → Bool
+named op [] = false
+named op (k ∷ ks) = eqb op k || named op ks
 
-unfoldable pub sources : List ℕ
-unfolding numbered sourceOf
-sources = map sourceOf (numbered 0 0 (buffers [] [] []))
+unfoldable pub nothingElse : (ks : List ℕ) (n : ℕ) → Bool
+unfolding sourceAt
+nothingElse ks zero = true
+nothingElse ks (suc n) = (named n ks || eqb (sourceAt n) nothing) && nothingElse ks n
 
-pub source-at : (op : ℕ) → getD sources op 0 ≡ sourceAt op
-unfolding sources sourceAt callOn sourceOf
-source-at op = source-of (numbered 0 0 (buffers [] [] [])) op
+abbrev pub NotNamed : (op : ℕ) → List ℕ → Type 0
+NotNamed op [] = Unit
+NotNamed op (k ∷ ks) = NotNamed op ks × (op ≡ k → ⊥)
 
--- at most k and not k, so below it
-pub below : {k op : ℕ} → op < suc k → (op ≡ k → ⊥) → op < k
-below {k} {op} h f = elim (decLt op k) [ yes l ↦ l | no l ↦ absurd (f (omega arith)) ]
+not-named : (op : ℕ) (ks : List ℕ) → NotNamed op ks → named op ks ≡ false
+not-named op [] f = refl
+not-named op (k ∷ ks) f = rw (ne-eqb op k (f .1)) (not-named op ks (f .0))
 
--- not k, so above it
-pub above : {k op : ℕ} → k ≤ op → (op ≡ k → ⊥) → suc k ≤ op
-above {k} {op} h f = elim (decLt k op) [ yes l ↦ omega arith | no l ↦ absurd (f (omega arith)) ]
+nothing-below : (ks : List ℕ) (n op : ℕ) → nothingElse ks n ≡ true → op < n → NotNamed op ks → sourceAt op ≡ nothing
+unfolding nothingElse
+nothing-below ks zero op t l f = absurd (omega arith)
+nothing-below ks (suc n) op t l f = elim (ℕ-discrete op n) [
+  | yes e ↦ rw e (eqb-true _ _ (rw (not-named n ks (rw e at f)) at (both .0)))
+  | no e ↦ nothing-below ks n op (both .1) (omega arith) f
+]
+  where
+    both : ((named n ks || eqb (sourceAt n) nothing) ≡ true) × (nothingElse ks n ≡ true)
+    both = and-eq-true-iff (named n ks || eqb (sourceAt n) nothing) (nothingElse ks n) .0 t
+
+-- behind the last query no call has the number
+nothing-behind : (op : ℕ) → firstQuery + queryCount ≤ op → sourceAt op ≡ nothing
+unfolding sourceAt callOn
+nothing-behind op h =
+    let part = buffers [] [] [] in
+    let d : getD (asking 0 0 0 part) (op - firstQuery) longest ≡ longest =
+    List·getD-eq-default (asking 0 0 0 part) longest {n = op - firstQuery} (omega (arith, counted 0 0 0 part .1)) in
+    rw (le-ltb op firstQuery (omega arith), d)
+
+pub nothing-lent : (ks : List ℕ) (op : ℕ) → nothingElse ks (firstQuery + queryCount) ≡ true → NotNamed op ks → sourceAt op ≡ nothing
+nothing-lent ks op t f = elim (decLt op (firstQuery + queryCount)) [
+  | yes l ↦ nothing-below ks (firstQuery + queryCount) op t l f
+  | no l ↦ nothing-behind op (omega arith)
+]
+
+-- Past the arms of a `match`
+
+-- none of n numbers, from the first on
+abbrev pub NoneOf : (first n op : ℕ) → Type 0
+NoneOf first zero op = Unit
+NoneOf first (suc n) op = NoneOf first n op × (op ≡ first + n → ⊥)
+
+-- so behind them
+pub behind : (first n op : ℕ) → first ≤ op → NoneOf first n op → first + n ≤ op
+behind first zero op h f = omega arith
+behind first (suc n) op h f = elim (decLt (first + n) op) [
+  | yes l ↦ omega arith
+  | no l ↦ absurd (f .1 (omega (arith, behind first n op h (f .0))))
+]
+
+-- a call that is none of those that write is a query
+pub query-known : (op : ℕ) → isCall op ≡ true → writingCount ≤ op → firstQuery ≤ op
+query-known op k h = elim (decLt op firstQuery) [
+  | yes l ↦ absurd (omega (arith, ltb-true op writingCount (simp (lt-ltb op firstQuery l) at k)))
+  | no l ↦ omega arith
+]
+
+-- and behind the last query there is none
+pub none-known : (op : ℕ) → isCall op ≡ true → firstQuery + queryCount ≤ op → ⊥
+none-known op k h = omega (arith, ltb-true op (firstQuery + queryCount) (simp (le-ltb op firstQuery (omega arith)) at k))

@@ -1,13 +1,13 @@
 -- The script of `drive`: the calls that it asks for, six bytes each: the call's number, b, and x and m of two bytes, the low one first.
 use mathlib.Core.Path.{_≡_, refl}
-use mathlib.Core.Bool.{Bool, cond, _&&_}
+use mathlib.Core.Bool.{Bool, cond, _&&_, _||_}
 use mathlib.Core.List.{List, [], _∷_}
 use mathlib.Core.Option.{Option, some, none}
-use Prim.Native.Nat.{ℕ, zero, suc, _+_, _*_}
+use Prim.Native.Nat.{ℕ, zero, suc, _+_, _-_, _*_}
 use lib.Dec.{eqb, leb, ltb}
 use lib.ListN.{length, getD, take, drop}
 use Rattle.drive.specs.declared.lending.Sizes.{Sizes}
-use Rattle.promises.specs.Book.{Call, start, feed, load, mark, back, ask, split, longest, mask, radius, next, fold, lift}
+use Rattle.promises.specs.Book.{Query, Call, start, feed, load, mark, back, ask, split, longest, mask, radius, next, fold, lift}
 
 -- What is lent beside the state: entries of lists, bytes of outputs, and bytes that calls only read; what is left of each
 pub record Buffers : Type 0 where
@@ -18,37 +18,47 @@ pub record Buffers : Type 0 where
 abbrev pub buffers : (lists bytes input : List ℕ) → Buffers
 buffers lists bytes input = record { lists = lists; bytes = bytes; input = input }
 
--- The calls by their numbers, each on what it is lent
-unfoldable pub numbered : (b x : ℕ) → Buffers → List Call
-numbered b x part =
-    start b
-    ∷ feed b (part .lists)
-    ∷ ask (split x b (part .lists))
-    ∷ ask longest
-    ∷ ask (mask x)
-    ∷ ask (radius x)
-    ∷ ask (next x)
-    ∷ ask (fold x b (part .bytes))
-    ∷ ask (lift b)
-    ∷ load (part .input)
-    ∷ mark b
-    ∷ back b
+-- The calls that write the state, by their numbers, each on what it is lent
+unfoldable pub writing : (b : ℕ) → Buffers → List Call
+writing b part = start b ∷ feed b (part .lists) ∷ load (part .input) ∷ mark b ∷ back b ∷ []
+
+-- The queries, by their numbers from 16 on; m is a number to one that is lent nothing
+unfoldable pub asking : (b x m : ℕ) → Buffers → List Query
+asking b x m part =
+    split x b (part .lists)
+    ∷ longest
+    ∷ mask x
+    ∷ radius x
+    ∷ next x
+    ∷ fold x b (part .bytes)
+    ∷ lift b
     ∷ []
 
+abbrev pub firstQuery : ℕ
+firstQuery = 16
+
 -- how many they are
-abbrev pub callCount : ℕ
-callCount = 12
+abbrev pub writingCount : ℕ
+writingCount = 5
 
-pub counted : (b x : ℕ) (part : Buffers) → length (numbered b x part) ≡ callCount
-unfolding numbered
-counted b x part = refl
+abbrev pub queryCount : ℕ
+queryCount = 7
 
--- the call of a number below that
-unfoldable pub callOn : (op b x : ℕ) → Buffers → Call
-unfolding numbered
-callOn op b x part = getD (numbered b x part) op (ask longest)
+pub counted : (b x m : ℕ) (part : Buffers) → (length (writing b part) ≡ writingCount) × (length (asking b x m part) ≡ queryCount)
+unfolding writing asking
+counted b x m part = (refl, refl)
 
--- What a call is lent its list of
+-- whether a call has the number
+abbrev pub isCall : (op : ℕ) → Bool
+isCall op = cond (ltb op firstQuery) (ltb op writingCount) (ltb op (firstQuery + queryCount))
+
+-- the call that has it
+unfoldable pub callOn : (op b x m : ℕ) → Buffers → Call
+unfolding writing asking
+callOn op b x m part =
+    cond (ltb op firstQuery) (getD (writing b part) op (ask longest)) (ask (getD (asking b x m part) (op - firstQuery) longest))
+
+-- What a call is lent: nothing; a list to fill, of m entries or of m bytes; m bytes to read; or a list of m entries and x bytes to read
 
 abbrev pub nothing : ℕ
 nothing = 0
@@ -61,6 +71,9 @@ ofBytes = 2
 
 abbrev pub ofInput : ℕ
 ofInput = 3
+
+abbrev pub ofListsAndInput : ℕ
+ofListsAndInput = 4
 
 unfoldable pub sourceOf : Call → ℕ
 sourceOf (start K) = nothing
@@ -76,9 +89,16 @@ sourceOf (ask (next c)) = nothing
 sourceOf (ask (fold i k output)) = ofBytes
 sourceOf (ask (lift letter)) = nothing
 
--- the list of a call that is lent it from there; [] of any other
-abbrev pub listFrom : (source : ℕ) → Call → (list : List ℕ) → List ℕ
-listFrom source c list = cond (eqb (sourceOf c) source) list []
+-- whether the list to fill is entries, or bytes
+abbrev pub fillsLists : (source : ℕ) → Bool
+fillsLists source = eqb source ofLists || eqb source ofListsAndInput
+
+abbrev pub fillsBytes : (source : ℕ) → Bool
+fillsBytes source = eqb source ofBytes
+
+-- the list of a call that fills such a one; [] of any other
+abbrev pub listFrom : (fills : ℕ → Bool) → Call → (list : List ℕ) → List ℕ
+listFrom fills c list = cond (fills (sourceOf c)) list []
 
 -- The next call
 
@@ -86,25 +106,25 @@ listFrom source c list = cond (eqb (sourceOf c) source) list []
 abbrev pub pair : (script : List ℕ) (i : ℕ) → ℕ
 pair script i = getD script i 0 + 256 * getD script (i + 1) 0
 
--- what the call of this number is lent its list of
+-- what the call of this number is lent
 unfoldable pub sourceAt : (op : ℕ) → ℕ
 unfolding callOn sourceOf
-sourceAt op = sourceOf (callOn op 0 0 (buffers [] [] []))
+sourceAt op = sourceOf (callOn op 0 0 0 (buffers [] [] []))
 
--- of the m asked for, so many come from each
-abbrev pub sizesOf : (source m : ℕ) → Sizes
-sizesOf source m = record {
-  entries = cond (eqb source ofLists) m 0;
-  output = cond (eqb source ofBytes) m 0;
-  input = cond (eqb source ofInput) m 0;
+-- so much from each
+abbrev pub sizesOf : (source x m : ℕ) → Sizes
+sizesOf source x m = record {
+  entries = cond (fillsLists source) m 0;
+  output = cond (fillsBytes source) m 0;
+  input = cond (eqb source ofInput) m (cond (eqb source ofListsAndInput) x 0);
 }
 
-abbrev pub sizesFor : (op m : ℕ) → Sizes
-sizesFor op m = sizesOf (sourceAt op) m
+abbrev pub sizesFor : (op x m : ℕ) → Sizes
+sizesFor op x m = sizesOf (sourceAt op) x m
 
 -- a call has the number, and so much is left to lend
 abbrev pub fits : (op : ℕ) → Sizes → (lists bytes input : ℕ) → Bool
-fits op z lists bytes input = ltb op callCount && (leb (z .entries) lists && (leb (z .output) bytes && leb (z .input) input))
+fits op z lists bytes input = isCall op && (leb (z .entries) lists && (leb (z .output) bytes && leb (z .input) input))
 
 abbrev pub fitsIn : (op : ℕ) → Sizes → Buffers → Bool
 fitsIn op z left = fits op z (length (left .lists)) (length (left .bytes)) (length (left .input))
@@ -118,7 +138,7 @@ past z left = buffers (drop (z .entries) (left .lists)) (drop (z .output) (left 
 
 unfoldable pub callFor : (op b x m : ℕ) → Buffers → Option Call
 unfolding callOn sourceAt
-callFor op b x m left = cond (fitsIn op (sizesFor op m) left) (some (callOn op b x (parts (sizesFor op m) left))) none
+callFor op b x m left = cond (fitsIn op (sizesFor op x m) left) (some (callOn op b x m (parts (sizesFor op x m) left))) none
 
 abbrev pub callSize : ℕ
 callSize = 6
@@ -131,7 +151,7 @@ nextCall script left =
 
 -- how much it is lent
 abbrev pub nextSizes : (script : List ℕ) → Sizes
-nextSizes script = sizesFor (getD script 0 0) (pair script 4)
+nextSizes script = sizesFor (getD script 0 0) (pair script 2) (pair script 4)
 
 -- All calls, one after the other, where the answers have room for so many
 

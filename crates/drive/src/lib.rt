@@ -6,16 +6,18 @@ ghost use mathlib.Core.List.{[], _∷_};
 ghost use Prim.Native.Nat.{_+_, _≤_, _<_};
 ghost use lib.ListN.{length, take};
 ghost use lib.Seq.{sets};
+ghost use Rattle.promises.specs.Answers.{foundNumbers};
 ghost use Rattle.promises.specs.Refusals.{showRefusal};
 ghost use Rattle.layout.specs.Yield.{yieldAt};
 ghost use Rattle.promises.specs.Replies.{shown, unfoldReply};
 ghost use Rattle.drive.specs.Script.{buffers};
-ghost use Rattle.drive.specs.Told.{numbersOf, foundNumbers};
+ghost use Rattle.drive.specs.Told.{numbersOf};
 ghost use Rattle.drive.specs.Drives.{heldIn, stateOf, encoded, Drives};
 ghost use Rattle.drive.specs.Advancing.{cursor, Room, Settles, AdvancesAt};
 
 mod lending;
 mod make;
+mod numbers;
 mod request;
 mod told;
 

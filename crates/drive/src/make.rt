@@ -4,13 +4,26 @@ ghost use Prim.Native.Nat.{_≤_, _<_};
 ghost use Rattle.cells.specs.Lanes.{byCentre, byPlace};
 ghost use Rattle.promises.specs.Answers.{startSays, feedSays, loadSays, markSays};
 ghost use Rattle.promises.specs.State.{draftIn};
-ghost use Rattle.drive.specs.Script.{buffers, sourceAt};
+ghost use Rattle.drive.specs.Script.{buffers, firstQuery};
 ghost use Rattle.drive.specs.Drives.{encoded};
 ghost use Rattle.drive.specs.Told.{numbersOf};
 ghost use Rattle.drive.specs.Calling.{Lent, Answers, Queried, TriesFor, triedAs, noneTried};
 use crate::lending::Sizes;
 use crate::lending::fits;
 use crate::lending::sizes_of;
+use crate::numbers::BACK;
+use crate::numbers::FEED;
+use crate::numbers::LIFT;
+use crate::numbers::LOAD;
+use crate::numbers::LONGEST_ENDING;
+use crate::numbers::MARK;
+use crate::numbers::MASK;
+use crate::numbers::NEXT_SHORTER;
+use crate::numbers::RADIUS_AT;
+use crate::numbers::RECORD;
+use crate::numbers::SPLIT;
+use crate::numbers::START;
+use crate::numbers::source_at;
 use crate::request::Request;
 use crate::told::Told;
 use crate::told::centre_told;
@@ -20,6 +33,7 @@ use crate::told::load_told;
 use crate::told::mark_told;
 use crate::told::mask_told;
 use crate::told::next_told;
+use crate::told::no_answer;
 use crate::told::radius_told;
 use crate::told::record_told;
 use crate::told::split_told;
@@ -40,22 +54,6 @@ use cells::RADIUS;
 use cells::ROWS;
 use promises::LoadAnswer;
 use promises::MarkAnswer;
-
-// How many calls there are: the number of none.
-pub const CALLS: u8 = 12;
-
-// What each call is lent its list of: nothing, entries of lists, bytes of outputs, or bytes that it only reads.
-const SOURCES: [u8; CALLS as usize] = [0, 1, 1, 0, 0, 0, 0, 2, 0, 3, 0, 0];
-
-fn source_at(op: u8) -> u8
-    ensures { λ r. ⌜ r ≡ sourceAt op ⌝ }
-{
-    if op < CALLS {
-        let i = op as usize;
-        return SOURCES[i];
-    }
-    0
-}
 
 // A call's answer, and the numbers of the state after it.
 struct Called {
@@ -119,44 +117,51 @@ fn returned(r: Return) -> Called
     }
 }
 
-// The answer to a request of number 2 to 8; list and output are what it is lent.
+// What came of a query, on a state of these numbers.
+fn asked(told: Told, held: Numbers) -> Called
+    ensures { λ c. ⌜ (c .told ≡ told) × (c .numbers ≡ held) ⌝ }
+{
+    Called {
+        told,
+        numbers: held,
+    }
+}
+
+// The answer to a query; input, list and bytes are what it is lent.
 fn ask(
     letters: &Letters,
     lifts: &Lifts,
     centres: &Centres,
     places: &Places,
+    input: &[u8],
     list: &mut [u16],
-    output: &mut [u8],
+    bytes: &mut [u8],
     held: Numbers,
     q: Request,
 ) -> Told
-    requires { ⌜ (2 ≤ q .op) × (q .op < 9) × Lent q (now list) (now output) ⌝ }
+    requires { ⌜ (firstQuery ≤ q .op) × Lent q (now list) (now bytes) ⌝ }
     ensures { λ t. ⌜ Queried
         (λ codes marks. draftIn held (now (letters .entry)) codes (now (lifts .entry)) marks (byCentre (now (centres .entry))) (byPlace (now (places .entry))))
-        q (now (list .entry)) (now (output .entry)) t (now (list .exit)) (now (output .exit)) ⌝ }
+        q (buffers (now (list .entry)) (now (bytes .entry)) (now (input .entry))) t (now (list .exit)) (now (bytes .exit)) ⌝ }
 {
     let op = q.op;
     let i = Place(q.x);
+    let c = Centre(q.x);
+    let rows = &places[ROWS];
+    let radii = &centres[RADIUS];
     match op {
-        2 => split_told(calls::split::split(&places[ROWS], &centres[RADIUS], held, i, q.b, list)),
-        3 => centre_told(calls::longest::longest(held)),
-        4 => mask_told(calls::mask::mask(&places[ROWS], held, i)),
-        5 => radius_told(calls::radius::radius(&centres[RADIUS], held, Centre(q.x))),
-        6 => next_told(calls::next::next(&centres[RADIUS], &centres[NEXT], held, Centre(q.x))),
-        7 => record_told(calls::fold::fold(
-            letters,
-            &places[ROWS],
-            &centres[RADIUS],
-            held,
-            i,
-            q.b,
-            output,
-        )),
-        _ => lift_told(calls::lift::lift(lifts, held, q.b)),
+        SPLIT => split_told(calls::split::split(rows, radii, held, i, q.b, list)),
+        LONGEST_ENDING => centre_told(calls::longest::longest(held)),
+        MASK => mask_told(calls::mask::mask(rows, held, i)),
+        RADIUS_AT => radius_told(calls::radius::radius(radii, held, c)),
+        NEXT_SHORTER => next_told(calls::next::next(radii, &centres[NEXT], held, c)),
+        RECORD => record_told(calls::fold::fold(letters, rows, radii, held, i, q.b, bytes)),
+        LIFT => lift_told(calls::lift::lift(lifts, held, q.b)),
+        _ => no_answer(),
     }
 }
 
-// The call of a request; input, list and output are what it is lent.
+// The call of a request; input, list and bytes are what it is lent.
 fn call(
     letters: &mut Letters,
     codes: &mut Letters,
@@ -166,31 +171,29 @@ fn call(
     places: &mut Places,
     input: &[u8],
     list: &mut [u16],
-    output: &mut [u8],
+    bytes: &mut [u8],
     held: Numbers,
     q: Request,
 ) -> Called
-    requires { ⌜ Lent q (now list) (now output) ⌝ }
+    requires { ⌜ Lent q (now list) (now bytes) ⌝ }
     ensures { λ c. ⌜ Answers
         (draftIn held (now (letters .entry)) (now (codes .entry)) (now (lifts .entry)) (now (marks .entry)) (byCentre (now (centres .entry))) (byPlace (now (places .entry))))
-        q (buffers (now (list .entry)) (now (output .entry)) (now (input .entry))) (c .told)
+        q (buffers (now (list .entry)) (now (bytes .entry)) (now (input .entry))) (c .told)
         (draftIn (c .numbers) (now (letters .exit)) (now (codes .exit)) (now (lifts .exit)) (now (marks .exit)) (byCentre (now (centres .exit))) (byPlace (now (places .exit))))
-        (now (list .exit)) (now (output .exit)) ⌝ }
+        (now (list .exit)) (now (bytes .exit)) ⌝ }
 {
     let op = q.op;
+    let b = q.b;
     match op {
-        0 => begun(calls::start::start(letters, codes, lifts, marks, centres, places, held, q.b)),
-        1 => fed(calls::feed::feed(letters, codes, lifts, centres, places, list, held, q.b)),
-        9 => loaded(calls::load::load(lifts, held, input), held),
-        10 => marked(calls::mark::mark(marks, held, q.b), held),
-        11 => returned(calls::back::back(letters, codes, lifts, marks, centres, places, held, q.b)),
-        _ => {
-            let told = ask(letters, lifts, centres, places, list, output, held, q);
-            Called {
-                told,
-                numbers: held,
-            }
-        }
+        START => begun(calls::start::start(letters, codes, lifts, marks, centres, places, held, b)),
+        FEED => fed(calls::feed::feed(letters, codes, lifts, centres, places, list, held, b)),
+        LOAD => loaded(calls::load::load(lifts, held, input), held),
+        MARK => marked(calls::mark::mark(marks, held, b), held),
+        BACK => returned(calls::back::back(letters, codes, lifts, marks, centres, places, held, b)),
+        _ => asked(
+            ask(letters, lifts, centres, places, input, list, bytes, held, q),
+            held,
+        ),
     }
 }
 
@@ -225,12 +228,7 @@ fn none(held: Numbers) -> Tried
 {
     Tried {
         made: false,
-        told: Told {
-            kind: 0,
-            first: 0,
-            second: 0,
-            third: 0,
-        },
+        told: no_answer(),
         numbers: held,
         entries: 0,
         output: 0,
@@ -257,7 +255,7 @@ pub fn make(
         (draftIn (t .numbers) (now (letters .exit)) (now (codes .exit)) (now (lifts .exit)) (now (marks .exit)) (byCentre (now (centres .exit))) (byPlace (now (places .exit))))
         (now (lists .exit)) (now (bytes .exit)) ⌝ }
 {
-    let z = sizes_of(source_at(q.op), q.m);
+    let z = sizes_of(source_at(q.op), q.x, q.m);
     if fits(q.op, z, lists.len(), bytes.len(), input.len()) {
         let entries = z.entries;
         let output = z.output;

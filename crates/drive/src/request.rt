@@ -4,7 +4,7 @@ ghost use Prim.Native.Nat.{_+_, _-_, _*_, _≤_};
 ghost use lib.ListN.{length, drop};
 ghost use Rattle.drive.specs.Script.{callSize};
 ghost use Rattle.drive.specs.Requests.{Requests, ended, requestOf};
-use crate::make::CALLS;
+use crate::numbers::NO_CALL;
 
 // The bytes of a call, and the numbers of an answer.
 const CALL_SIZE: usize = 6;
@@ -31,7 +31,7 @@ fn ended() -> Request
     ensures { λ r. ⌜ r ≡ ended ⌝ }
 {
     Request {
-        op: CALLS,
+        op: NO_CALL,
         b: 0,
         x: 0,
         m: 0,

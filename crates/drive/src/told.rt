@@ -1,8 +1,8 @@
 // An answer in four numbers.
 ghost use mathlib.Core.Path.{_≡_};
-ghost use Rattle.promises.specs.Answers.{startSays, feedSays, loadSays, markSays, maskSays, radiusSays, centreSays, nextSays, splitSays, recordSays, liftSays, unfoldSays};
+ghost use Rattle.promises.specs.Answers.{startSays, feedSays, loadSays, markSays, maskSays, radiusSays, centreSays, nextSays, splitSays, recordSays, liftSays, unfoldSays, turnNumbers, yieldedNumbers, foundNumbers};
 ghost use Rattle.drive.specs.Drives.{encoded};
-ghost use Rattle.drive.specs.Told.{numbersOf, toldGiven, toldRefused, toldRefusedAt, turnNumbers, yieldedNumbers, foundNumbers};
+ghost use Rattle.drive.specs.Told.{numbersOf, toldGiven, toldRefused, toldRefusedAt};
 use layout::Found;
 use layout::Turn;
 use layout::Yielded;
@@ -36,6 +36,13 @@ fn given(first: usize, second: usize) -> Told
         second,
         third: 0,
     }
+}
+
+// Where no call is made.
+pub fn no_answer() -> Told
+    ensures { λ r. ⌜ r ≡ toldGiven 0 0 ⌝ }
+{
+    given(0, 0)
 }
 
 fn given_byte(first: u8, second: usize) -> Told

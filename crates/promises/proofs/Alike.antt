@@ -13,9 +13,9 @@ use Rattle.promises.specs.Answers.{reply}
 use Rattle.promises.specs.Lifts.{tableSize, liftIn, liftedBy, Distinct}
 use Rattle.promises.specs.LiftLaws.{lifted-length, lifted-at}
 use Rattle.promises.specs.Book.{Book, Call, start, feed, load, mark, back, ask, split, longest, mask, radius, next, fold, lift, blank, lent, lifted, fedRow, bookOf}
-use Rattle.promises.specs.Replies.{orNoEnding, gives, fedReply, splitReply, recordReply, refusalOf, placed, foundFor, replyTo}
+use Rattle.promises.specs.Replies.{orNoEnding, gives, fedReply, splitReply, recordReply, refusalOf, refusalTo, foundFor, replyTo}
 use Rattle.promises.specs.RefusalLaws.{feed-fits, mask-fits, record-fits, split-fits}
-use Rattle.promises.specs.BookLaws.{unless-as}
+use Rattle.promises.specs.BookLaws.{said-as}
 use Rattle.promises.specs.Runs.{callOf, calls}
 use Rattle.promises.specs.Alike.{Alike, withTable, NoLift, AlikeHolds, alphabet, ReadAsLetters, ByLettersHolds}
 use Rattle.promises.proofs.LikeWords.{Like, visits-like, longest-like, radius-like, next-like, splits-like, mask-like}
@@ -95,7 +95,7 @@ module _ (b : Book) (other : List ℕ) (h : Every Letter (b .row)) (a : Alike (b
 
 pub alike : AlikeHolds
 unfolding replyTo
-alike b other call h a f = ap (placed call) (unless-as (refusalOf (length (b .row)) (b .K) call) (lent call) _ _ (found-alike b other h a call f))
+alike b other call h a f = said-as (refusalTo call) (refusalOf (length (b .row)) (b .K) call) (lent call) _ _ (found-alike b other h a call f)
 
 -- The letters as a table
 

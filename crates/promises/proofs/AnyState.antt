@@ -1,5 +1,4 @@
--- The calls that only read, on any state whatever: what each may read of it; and of a split and of the next shorter ending that the values
--- fit together.
+-- The calls that only read, on any state whatever: what each may read of it, and what is true of the answers.
 use mathlib.Core.Path.{_≡_, refl, sym, ap, _∙_}
 use mathlib.Core.Bool.{Bool, true, false, cond}
 use mathlib.Core.Logic.{inl}
@@ -8,21 +7,25 @@ use mathlib.Core.Option.{Option, some, none}
 use Prim.Native.Nat.{ℕ, _+_, _≤_, _<_}
 use native.Mathlib.Omega.{arith}
 use native.Mathlib.Decide.{ℕ-discrete}
+use lib.Dec.{leb}
+use lib.ListN.{length}
 use lib.Seq.{getD-take}
+use borrow.Author.Tests.{leb-true}
 use Rattle.words.specs.Definitions.{lengthAt, word}
+use Rattle.layout.specs.Record.{recordOf}
 use Rattle.models.specs.Stores.{at}
 use Rattle.models.specs.Iterator.{longestOf, isEnding, periodAt}
 use Rattle.models.specs.Iterating.{ending-high}
 use Rattle.models.specs.Answers.{shorterBy}
 use Rattle.models.specs.SplitCode.{split-alike, split-ends}
 use Rattle.promises.specs.declared.Draft.{Draft}
-use Rattle.promises.specs.Answers.{Reply}
+use Rattle.promises.specs.Answers.{refused, Reply, reply}
 use Rattle.promises.specs.Book.{Query, ask, split, longest, mask, radius, next, fold, lift, lent}
-use Rattle.promises.specs.Replies.{unless, orNoSplit, orNoEnding, gives, splitReply, recordReply, refusalOf}
+use Rattle.promises.specs.Replies.{unless, orNoSplit, orNoEnding, orTooLong, gives, splitReply, recordReply, refusalOf}
 use Rattle.promises.specs.State.{numbersOf}
 use Rattle.promises.specs.BookLaws.{unless-zero, unless-not}
 use Rattle.promises.specs.Promises.{maskByte, splitHeld, foundIn, computedTo, Reads}
-use Rattle.promises.specs.Demands.{Accepted, NextRight, NextHolds, EndsRight, SplitHolds}
+use Rattle.promises.specs.Demands.{Accepted, NextRight, NextHolds, EndsRight, SplitHolds, RecordRight, RecordHolds, LongestHolds}
 use Rattle.promises.specs.Unread.{prefixesTo, rowsTo, partsFor, stateFrom, replyFrom, PartsHold, otherRows, SplitAlike}
 use Rattle.promises.proofs.Keeping.{said-is}
 
@@ -67,6 +70,32 @@ split-holds d i k before r p ok = go (splitHeld d k i) refl (found d (split i k 
     go (some ends) e q =
         let h = split-ends (d .rows) (d .radius) (d .n) (longestOf (d .n) (d .longest .0)) k i ends e in
         record { ends = ends; count = h .0; rising = h .1; is = q }
+
+pub record-holds : RecordHolds
+unfolding foundIn orNoSplit orTooLong
+record-holds d i k before r p ok = go (splitHeld d k i) refl (found d (fold i k before) r p ok)
+  where
+    w : ℕ → ℕ
+    w = word (d .letters)
+
+    fits : (ends : List ℕ) (b : Bool) → leb (length (recordOf w i ends)) (length before) ≡ b → r ≡ orTooLong (recordOf w i ends) before
+        → splitHeld d k i ≡ some ends → RecordRight w i k before r
+    fits ends false l q e = let x : r ≡ reply (refused 5) before = q ∙ simp l in absurd (ok 5 (inl (said-is x)))
+    fits ends true l q e =
+        let h = split-ends (d .rows) (d .radius) (d .n) (longestOf (d .n) (d .longest .0)) k i ends e in
+        record { ends = ends; count = h .0; rising = h .1; fits = leb-true _ _ l; is = q ∙ simp l }
+
+    go : (o : Option (List ℕ)) → splitHeld d k i ≡ o → r ≡ recordReply w i o before → RecordRight w i k before r
+    go none e q = absurd (ok 9 (inl (said-is q)))
+    go (some ends) e q = fits ends (leb (length (recordOf w i ends)) (length before)) refl q e
+
+pub longest-holds : LongestHolds
+unfolding foundIn
+longest-holds d r p ok = record {
+  c = longestOf (d .n) (d .longest .0);
+  says = said-is (found d longest r p ok);
+  within = record { low = omega arith; high = omega arith };
+}
 
 -- What each may read
 

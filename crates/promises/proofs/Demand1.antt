@@ -7,6 +7,7 @@ use native.Mathlib.Omega.{arith}
 use native.Mathlib.Decide.{ℕ-discrete}
 use lib.ListN.{length, take, drop, getD, length-drop, take-append-drop}
 use lib.Seq.{length-take-le}
+use borrow.Author.Tests.{eq-eqb}
 use Rattle.models.specs.Core.{After, append}
 use Rattle.promises.specs.declared.Draft.{Draft}
 use Rattle.promises.specs.declared.Started.{Started}
@@ -20,10 +21,10 @@ use Rattle.promises.specs.Refusals.{startRefusal, feedRefusal, loadRefus
 use Rattle.promises.specs.Lifts.{liftIn}
 use Rattle.promises.specs.Marks.{markAt, isMark, roomFor}
 use Rattle.promises.specs.Book.{Book, Query, Call, start, feed, load, mark, back, ask, lift, lent, blank, bookOf}
-use Rattle.promises.specs.Replies.{unless, orNoMark, orFifthName, gives, refusalOf, placed, foundFor, replyTo, sectionOf, shown}
+use Rattle.promises.specs.Replies.{unlessSaid, orNoMark, orFifthName, gives, refusalOf, refusalTo, foundFor, replyTo, sectionOf, shown, shownBehind}
 use Rattle.promises.specs.Listed.{Line, First, NoneMet, listed, sought, showLines}
 use Rattle.promises.specs.Says.{PartOf}
-use Rattle.promises.specs.BookLaws.{unless-zero, unless-not, placed-under, placed-list}
+use Rattle.promises.specs.BookLaws.{said-zero, said-not, unless-zero, unless-not, refusal-under}
 use Rattle.promises.specs.ShowLaws.{part-fits}
 use Rattle.promises.specs.State.{arraysOf, codeIn, marksOf}
 use Rattle.promises.specs.Promises.{maskByte, foundIn, computedTo, StartPromise, FeedPromise, LoadPromise, MarkPromise, BackPromise, Reads, ShowPromise}
@@ -33,44 +34,43 @@ use Rattle.promises.proofs.Keeping.{gave-accepted, said-is, replied-at}
 use Rattle.promises.proofs.Listing.{Tested, hit, clear, first-one, first-none, show-tested}
 use Rattle.promises.proofs.Finding.{OnlyUnder, gave-only, marks-only}
 use Rattle.promises.proofs.Calls.{listed-tested, found-only}
-use Rattle.promises.proofs.Placing.{no-place, placed-at, zero-met}
+use Rattle.promises.proofs.Placing.{no-place, refusal-at, zero-met}
 use Rattle.promises.proofs.Answering.{answered}
 
 -- On any state: a reply by the call's number, and by what is found where that is 0
 
 pub record ByNumber (number : ℕ) (call : Call) (r : Reply) : Type 0 where
   pub found : Reply
-  pub is : r ≡ placed call (unless number (lent call) found)
-  pub plain : placed call found ≡ found
+  pub is : r ≡ unlessSaid (refusalTo call) number (lent call) found
   pub only : OnlyUnder (lent call) (soughtNumbers call) found
 
 module _ {number : ℕ} {call : Call} {r : Reply} (h : ByNumber number call r) where
-  by-refused : number ≢ 0 → r ≡ placed call (reply (refused number) (lent call))
-  by-refused f = h .is ∙ ap (placed call) (unless-not number (lent call) (h .found) f)
+  by-refused : number ≢ 0 → r ≡ reply (refusalTo call number) (lent call)
+  by-refused f = h .is ∙ said-not (refusalTo call) number (lent call) (h .found) f
 
   by-refuses : number ≢ 0 → Under (r .said) number
-  by-refuses f = subst (λ x. Under (x .said) number) (sym (by-refused f)) (placed-under call number (lent call))
+  by-refuses f = subst (λ x. Under (x .said) number) (sym (by-refused f)) (refusal-under call number)
 
   by-found : number ≡ 0 → (x : ℕ) → Under (r .said) x → (r .said ≡ refused x) × (r .list ≡ lent call) × List·Memᴰ x (soughtNumbers call)
   by-found z x e =
-      let q : r ≡ h .found = h .is ∙ ap (placed call) (unless-zero number (lent call) (h .found) z) ∙ h .plain in
+      let q : r ≡ h .found = h .is ∙ said-zero (refusalTo call) number (lent call) (h .found) z in
       let l = h .only x (subst (λ y. Under (y .said) x) q e) in
       (ap (λ y. y .said) q ∙ l .0, ap (λ y. y .list) q ∙ l .1, l .2)
 
   by-keeps : (x : ℕ) → Under (r .said) x → r .list ≡ lent call
   by-keeps x e = elim (ℕ-discrete number 0) [
     | yes z ↦ by-found z x e .1
-    | no f ↦ ap (λ y. y .list) (by-refused f) ∙ placed-list call _
+    | no f ↦ ap (λ y. y .list) (by-refused f)
   ]
 
 start-numbered : {d : Draft} {K : ℕ} {r : Started} → StartPromise d K r
     → ByNumber (refusalOf (d .n) (d .k) (start K)) (start K) (reply (startSays (r .answer)) [])
 unfolding replyTo refusalOf lent foundFor sought
-start-numbered p = record { found = gives []; is = p .says blank; plain = refl; only = gave-only [] [] [] [] }
+start-numbered p = record { found = gives []; is = p .says blank; only = gave-only [] [] [] [] }
 
 query-numbered : {d : Draft} {q : Query} {r : Reply} → Reads d q r → ByNumber (refusalOf (d .n) (d .k) (ask q)) (ask q) r
 unfolding computedTo
-query-numbered {d} {q} p = record { found = foundIn d q; is = p .computes; plain = refl; only = found-only d q }
+query-numbered {d} {q} p = record { found = foundIn d q; is = p .computes; only = found-only d q }
 
 feed-numbered : {d : Draft} {pick : ℕ} {before : List ℕ} {r : Fed} {after : List ℕ} → FeedPromise d pick before r after
     → ByNumber (refusalOf (d .n) (d .k) (feed pick before)) (feed pick before) (reply (feedSays (r .answer)) after)
@@ -81,7 +81,6 @@ feed-numbered {d} {pick} {before} {r} {after} p = record {
     | yes q ↦ let c = p .computes q in ap₂ reply (c .says) (c .list) ∙ sym (unless-zero number before _ q)
     | no f ↦ let c = p .refuses f in ap₂ reply (c .0) (c .2) ∙ sym (unless-not number before _ f)
   ];
-  plain = refl;
   only = gave-only values before (z .visits) [];
 }
   where
@@ -100,10 +99,9 @@ unfolding refusalOf lent sought
 load-numbered {d} {lifts} p = record {
   found = gives [];
   is = elim (ℕ-discrete number 0) [
-    | yes q ↦ ap (λ s. reply s []) (p .computes q .0) ∙ ap (placed (load lifts)) (sym (unless-zero number [] (gives []) q))
-    | no f ↦ ap (λ s. reply s []) (p .refuses f .0) ∙ ap (placed (load lifts)) (sym (unless-not number [] (gives []) f))
+    | yes q ↦ ap (λ s. reply s []) (p .computes q .0) ∙ sym (said-zero (refusalTo (load lifts)) number [] (gives []) q)
+    | no f ↦ ap (λ s. reply s []) (p .refuses f .0) ∙ sym (said-not (refusalTo (load lifts)) number [] (gives []) f)
   ];
-  plain = refl;
   only = gave-only [] [] [] [];
 }
   where
@@ -114,13 +112,13 @@ mark-numbered : {d : Draft} {name : ℕ} {r : Marked} → MarkPromise d name r
     → ByNumber (refusalOf (d .n) (d .k) (mark name)) (mark name) (reply (markSays (r .answer)) [])
 unfolding lent sought
 mark-numbered {d} {name} p =
-    record { found = reply (orFifthName (marksOf d) name) []; is = p .computes; plain = refl; only = marks-only (roomFor (marksOf d) name) 18 }
+    record { found = reply (orFifthName (marksOf d) name) []; is = p .computes; only = marks-only (roomFor (marksOf d) name) 18 }
 
 back-numbered : {d : Draft} {name : ℕ} {r : Marked} → BackPromise d name r
     → ByNumber (refusalOf (d .n) (d .k) (back name)) (back name) (reply (markSays (r .answer)) [])
 unfolding lent sought
 back-numbered {d} {name} p =
-    record { found = reply (orNoMark (marksOf d) name) []; is = p .computes; plain = refl; only = marks-only (isMark (markAt (marksOf d) name)) 17 }
+    record { found = reply (orNoMark (marksOf d) name) []; is = p .computes; only = marks-only (isMark (markAt (marksOf d) name)) 17 }
 
 numbered : (d : Draft) (m : Made) → Meets d m → ByNumber (refusalOf (d .n) (d .k) (callOf m)) (callOf m) (replyOf m)
 unfolding Meets replyOf callOf
@@ -170,7 +168,7 @@ demand1 d m p = record {
         → (replyOf m .said ≡ refusedAt number place) ↔ (First ls number × PlaceOf (callOf m) number place)
     places number place (hit g z) =
         let e = ap (λ x. x .said) (by-refused (numbered d m p) z) in
-        let a = placed-at (callOf m) (refusalOf (d .n) (d .k) (callOf m)) (lent (callOf m))
+        let a = refusal-at (callOf m) (refusalOf (d .n) (d .k) (callOf m))
         (λ lifts q y. zero-met (d .n) (d .k) lifts (rw q at (subst (First (listed (d .n) (d .k) (callOf m))) y g))) number place in (
           λ q. let t = a .0 (sym e ∙ q) in (subst (First ls) (sym (t .0)) g, t .1),
           λ q. e ∙ a .1 (first-one ls (q .0) g, q .1),
@@ -220,23 +218,26 @@ module _ (letters ends : List ℕ) (s : ℕ) {part : List ℕ} (p : ShowPromise 
       }
 
 pub show-holds : ShowHolds
-show-holds letters ends s part number p q = go (show-tested letters ends s)
+unfolding shownBehind
+show-holds letters ends s lent at part number p w q = go (show-tested letters ends s)
   where
     ls : List Line
     ls = showLines letters ends s
 
-    go : Tested ls (showRefusal letters ends s) → ShowRight letters ends s part number
+    go : Tested ls (showRefusal letters ends s) → ShowRight letters ends s lent at part number
     go (hit g f) = record {
       refuses = λ x n. (λ e. let z : showRefusal letters ends s ≡ x = sym q ∙ e in rw z at g, λ h. q ∙ first-one ls g h);
       empty = λ _. show-part letters ends s p f;
       accepts = (λ z. absurd (f (sym q ∙ z)), λ h. absurd (first-none ls _ g h));
       gives = λ h. absurd (first-none ls _ g h);
+      place = λ h. absurd (first-none ls _ g h);
     }
     go (clear g z) = record {
       refuses = λ x n. (λ e. absurd (n (sym e ∙ q ∙ z)), λ h. absurd (first-none ls x h g));
       empty = λ f. absurd (f (q ∙ z));
       accepts = (λ _. g, λ _. q ∙ z);
       gives = λ _. show-gives letters ends s p z;
+      place = λ _. (w .0, w .1 ∙ simp (eq-eqb (showRefusal letters ends s) 0 z));
     }
 
 -- Lift, on any state

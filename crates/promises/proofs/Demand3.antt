@@ -32,7 +32,7 @@ use Rattle.promises.specs.LiftLaws.{lifted-length, lifted-more}
 use Rattle.promises.specs.Marks.{markAt, isMark, roomFor}
 use Rattle.promises.specs.Book.{Book, load, blank, split, longest, next, lent, lifted, fedRow, fedLifted, startTaken, loadTaken, markTaken, backTaken}
 use Rattle.promises.specs.Replies.{unless, orNoSplit, orNoEnding, orRefused, splitReply, refusalOf, foundFor, replyTo}
-use Rattle.promises.specs.BookLaws.{Case, taken, left, start-cases, passes7, unless-zero, unless-not, placed-under}
+use Rattle.promises.specs.BookLaws.{Case, taken, left, start-cases, passes7, unless-zero, unless-not, refusal-under}
 use Rattle.promises.specs.WritingLaws.{held-fits, load-number, load-case}
 use Rattle.promises.specs.MarkingLaws.{letter-case}
 use Rattle.promises.specs.State.{arraysOf}
@@ -168,7 +168,7 @@ load-accepted {d} {b} {lifts} {r} h p = go (load-case h lifts)
     go (taken t z) = (λ _. t, λ _. gave-accepted (p .computes (load-number h lifts ∙ z) .0))
     go (left t z) =
         let n : ℕ = loadRefusal (d .n) (d .k) lifts in
-        let u : Under (loadSays (r .answer)) n = subst (λ s. Under s n) (sym (p .refuses (λ q. z (sym (load-number h lifts) ∙ q)) .0)) (placed-under (load lifts) n []) in
+        let u : Under (loadSays (r .answer)) n = subst (λ s. Under s n) (sym (p .refuses (λ q. z (sym (load-number h lifts) ∙ q)) .0)) (refusal-under (load lifts) n) in
         (λ ok. absurd (ok n u), λ y. absurd (true-false y t))
 
 -- Marks and going back: s tells a name A to Z, t what the marks say

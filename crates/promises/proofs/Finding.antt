@@ -1,5 +1,5 @@
 -- What is found, from the book and in the stored arrays: which line refuses it, or what it says.
-use mathlib.Core.Path.{_≡_, refl, sym, ap, _∙_}
+use mathlib.Core.Path.{_≡_, refl, sym, ap, ap₂, _∙_}
 use mathlib.Core.Bool.{Bool, true, false, cond, _||_}
 use mathlib.Core.Logic.{inl, inr}
 use mathlib.Core.List.{List, [], _∷_, List·Memᴰ, List·Memᴰ·head, List·Memᴰ·tail}
@@ -22,7 +22,7 @@ use Rattle.promises.specs.Answers.{gave, refused, Under, Reply, reply, f
 use Rattle.layout.specs.Record.{recordOf}
 use Rattle.promises.specs.Marks.{Marks, mostMarks, markAt, isMark, howMany, roomFor}
 use Rattle.promises.specs.Book.{Book, Call, mark, back, ask, lent, lifted, split, next, fold}
-use Rattle.promises.specs.Replies.{orNoSplit, orNoEnding, orTooLong, orRefused, orNoMark, orFifthName, gives, splitReply, recordReply, placed}
+use Rattle.promises.specs.Replies.{orNoSplit, orNoEnding, orTooLong, orRefused, orNoMark, orFifthName, gives, splitReply, recordReply, refusalTo}
 use Rattle.promises.specs.LiftLaws.{lifted-length}
 use Rattle.promises.specs.Listed.{Line, First, NoneMet, Outside, recordLonger, noSplit, noEnding, noSuchMark, fifthName}
 use Rattle.promises.specs.Says.{Yes, RadiusSays, Says}
@@ -33,7 +33,7 @@ use Rattle.promises.proofs.Keeping.{gave-accepted}
 
 -- refused under the first of them, or none is met and the reply is what document 01 says
 pub data Outcome (b : Book) (call : Call) (ls : List Line) (r : Reply) : Type 0 where
-  under : (number : ℕ) → First ls number → r ≡ placed call (reply (refused number) (lent call)) → Outcome b call ls r
+  under : (number : ℕ) → First ls number → r ≡ reply (refusalTo call number) (lent call) → Outcome b call ls r
   fine : NoneMet ls → Accepted (r .said) → Says b call r → Outcome b call ls r
 
 -- From the book
@@ -121,11 +121,11 @@ record-found b i k output = go (splitOf (word (lifted b)) i k) (split-law (word 
     ])
 
 -- what the marks say: t, with a line that is met exactly where they say no
-marks-found : (b : Book) (call : Call) (l : Line) (t : Bool) → lent call ≡ [] → ((r : Reply) → placed call r ≡ r) → (t ≡ false → l .Met)
+marks-found : (b : Book) (call : Call) (l : Line) (t : Bool) → lent call ≡ [] → ((x : ℕ) → refusalTo call x ≡ refused x) → (t ≡ false → l .Met)
     → (t ≡ true → l .Met → ⊥) → ((r : Reply) → r ≡ reply (gave []) [] → Says b call r) → Outcome b call (l ∷ []) (reply (orRefused t (l .number)) [])
 unfolding First NoneMet
 marks-found b call l true e p f g s = fine (g refl, tt) (gave-accepted refl) (s _ refl)
-marks-found b call l false e p f g s = under (l .number) (inl (f refl, refl)) (sym (p _ ∙ ap (reply (refused (l .number))) e))
+marks-found b call l false e p f g s = under (l .number) (inl (f refl, refl)) (sym (ap₂ reply (p (l .number)) e))
 
 pub no-mark : (o : Option ℕ) → isMark o ≡ false → (m : ℕ) → o ≡ some m → ⊥
 no-mark none e m q = clash cc

@@ -79,6 +79,17 @@ unfolding Run last
 upto d [] ys m t = (tt, t .0)
 upto d (x ∷ xs) ys m t = let r = upto (leaves d x) xs ys m (t .1) in ((t .0, r .0), r .1)
 
+-- runs join: the second on the state that the first left
+pub run-join : (d : Draft) (xs ys : List Made) → Run d xs → Run (last d xs) ys → Run d (xs ++ ys)
+unfolding Run last
+run-join d [] ys t u = u
+run-join d (x ∷ xs) ys t u = (t .0, run-join (leaves d x) xs ys (t .1) u)
+
+pub last-join : (d : Draft) (xs ys : List Made) → last d (xs ++ ys) ≡ last (last d xs) ys
+unfolding last
+last-join d [] ys = refl
+last-join d (x ∷ xs) ys = last-join (leaves d x) xs ys
+
 -- Every letter in the book is one
 
 pub letters-of : (b : Book) (cs : List Call) → Every Letter (b .row) → Every Letter (writeAll b cs .row)

@@ -8,13 +8,13 @@ use native.Mathlib.Omega.{arith}
 use lib.Dec.{eqb}
 use borrow.Author.Tests.{eqb-true, eq-eqb}
 use Rattle.words.specs.Cases.{clash, true-false}
-use Rattle.promises.specs.Answers.{Said, refused, refusedAt, Under, reply}
+use Rattle.promises.specs.Answers.{Said, refused, refusedAt, Under}
 use Rattle.promises.specs.Lifts.{firstZero, FirstZero}
 use Rattle.promises.specs.LiftLaws.{first-is}
-use Rattle.promises.specs.Book.{Book, Call, start, feed, load, mark, back, ask}
-use Rattle.promises.specs.Replies.{placed, foundFor}
+use Rattle.promises.specs.Book.{Call, start, feed, load, mark, back, ask}
+use Rattle.promises.specs.Replies.{refusalTo}
 use Rattle.promises.specs.Listed.{First, listed}
-use Rattle.promises.specs.Demands.{PlaceOf}
+use Rattle.promises.specs.Demands.{PlaceOf, ofZero}
 
 -- refused under one number
 
@@ -44,15 +44,19 @@ zero-met n K lifts f = elim f [
 pub no-place : {x y p : ℕ} → refused y ≡ refusedAt x p → ⊥
 no-place {x} {y} {p} e = clash cc
 
--- the place is the one that belongs to the number, and there is none where none does
-pub placed-at : (call : Call) (y : ℕ) (list : List ℕ) → ((lifts : List ℕ) → call ≡ load lifts → y ≡ 15 → (place : ℕ) × FirstZero lifts place)
-    → (x place : ℕ) → (placed call (reply (refused y) list) .said ≡ refusedAt x place) ↔ ((x ≡ y) × PlaceOf call x place)
-placed-at (start K) y list f x place = (λ e. absurd (no-place e), λ p. absurd (p .1))
-placed-at (feed pick visits) y list f x place = (λ e. absurd (no-place e), λ p. absurd (p .1))
-placed-at (mark name) y list f x place = (λ e. absurd (no-place e), λ p. absurd (p .1))
-placed-at (back name) y list f x place = (λ e. absurd (no-place e), λ p. absurd (p .1))
-placed-at (ask q) y list f x place = (λ e. absurd (no-place e), λ p. absurd (p .1))
-placed-at (load lifts) y list f x place = go (eqb y 15) refl
+-- a place belongs to 15 of a load, and it is that of the first lift of 0
+pub place-is : {call : Call} {x place : ℕ} → PlaceOf call x place → (lifts : List ℕ) × (call ≡ load lifts) × (x ≡ 15) × FirstZero lifts place
+place-is (ofZero {lifts = lifts} f) = (lifts, refl, refl, f)
+
+-- what is said of the number is its place, and there is none where none belongs to it
+pub refusal-at : (call : Call) (y : ℕ) → ((lifts : List ℕ) → call ≡ load lifts → y ≡ 15 → (place : ℕ) × FirstZero lifts place)
+    → (x place : ℕ) → (refusalTo call y ≡ refusedAt x place) ↔ ((x ≡ y) × PlaceOf call x place)
+refusal-at (start K) y f x place = (λ e. absurd (no-place e), λ p. clash (cc (place-is (p .1) .1)))
+refusal-at (feed pick visits) y f x place = (λ e. absurd (no-place e), λ p. clash (cc (place-is (p .1) .1)))
+refusal-at (mark name) y f x place = (λ e. absurd (no-place e), λ p. clash (cc (place-is (p .1) .1)))
+refusal-at (back name) y f x place = (λ e. absurd (no-place e), λ p. clash (cc (place-is (p .1) .1)))
+refusal-at (ask q) y f x place = (λ e. absurd (no-place e), λ p. clash (cc (place-is (p .1) .1)))
+refusal-at (load lifts) y f x place = go (eqb y 15) refl
   where
     go : (b : Bool) → eqb y 15 ≡ b
         → (cond b (refusedAt y (firstZero lifts)) (refused y) ≡ refusedAt x place) ↔ ((x ≡ y) × PlaceOf (load lifts) x place)
@@ -61,17 +65,11 @@ placed-at (load lifts) y list f x place = go (eqb y 15) refl
         let m = f lifts refl z in (
           λ e.
               let q = at-number e in
-              (sym (q .0), (sym (q .0) ∙ z, subst (FirstZero lifts) (first-is lifts (m .0) (m .1) ∙ q .1) (m .1))),
-          λ p. ap₂ refusedAt (sym (p .0)) (sym (first-is lifts place (p .1 .1))),
+              let w : 15 ≡ x = sym z ∙ q .0 in
+              (sym (q .0), rw (← w) (ofZero (subst (FirstZero lifts) (first-is lifts (m .0) (m .1) ∙ q .1) (m .1)))),
+          λ p.
+              let w = place-is (p .1) in
+              let same : w .0 ≡ lifts = cc (w .1) in
+              ap₂ refusedAt (sym (p .0)) (sym (first-is lifts place (rw same at (w .3)))),
         )
-    go false t = (λ e. absurd (no-place e), λ p. absurd (true-false (eq-eqb y 15 (sym (p .0) ∙ p .1 .0)) t))
-
--- what is found has none
-pub found-plain : (b : Book) (call : Call) → placed call (foundFor b call) ≡ foundFor b call
-unfolding foundFor
-found-plain b (start K) = refl
-found-plain b (feed pick visits) = refl
-found-plain b (load lifts) = refl
-found-plain b (mark name) = refl
-found-plain b (back name) = refl
-found-plain b (ask q) = refl
+    go false t = (λ e. absurd (no-place e), λ p. absurd (true-false (eq-eqb y 15 (sym (p .0) ∙ place-is (p .1) .2)) t))

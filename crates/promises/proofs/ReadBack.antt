@@ -4,23 +4,28 @@ use mathlib.Core.List.{List, [], _∷_, _++_, map, map-append, reverse, reverse-
 use Prim.Native.Nat.{ℕ, zero, suc, _+_, _-_, _/_, _≤_, _<_}
 use native.Mathlib.Omega.{arith}
 use native.Mathlib.Decide.{decLt}
-use lib.ListN.{length, take, drop}
+use lib.ListN.{length, take, drop, getD}
 use lib.Seq.{take-append-seam}
 use borrow.Author.Tests.{eq-eqb, le-leb}
 use Rattle.words.specs.Definitions.{From, mostPicks, mostSections}
 use Rattle.words.specs.Definitions.{word, stretch, prefix, lengthsBack, Sections, done, next, Named}
 use Rattle.words.specs.Cases.{clash}
+use Rattle.cells.specs.declared.Place.{Place}
 use Rattle.layout.specs.declared.Section.{Section}
+use Rattle.layout.specs.declared.Turn.{Turn}
+use Rattle.layout.specs.declared.Turn.the-variants.{OnPick, Between}
+use Rattle.layout.specs.declared.Yielded.{Yielded}
+use Rattle.layout.specs.declared.Yielded.the-variants.{Next, Nothing}
 use Rattle.layout.specs.Record.{Folded, foldedOf, recordOf}
 use Rattle.layout.specs.Layout.{Every, none, more, Letter, total, Passes}
 use Rattle.layout.specs.Unfolding.{unfolded, picksOf}
-use Rattle.layout.specs.Yield.{sectionAfter, sectionsIn}
+use Rattle.layout.specs.Yield.{sectionAfter, yieldAt, sectionsIn}
 use Rattle.layout.specs.Entries.{every-at}
 use Rattle.layout.specs.ReadingLaws.{laid-law}
 use Rattle.layout.specs.UnfoldLaws.{unfold-law}
 use Rattle.layout.specs.WrittenLaws.{folded-count, every-stretch, written-law, back-law}
 use Rattle.layout.specs.YieldLaws.{yields-law, yields-none}
-use Rattle.promises.specs.Answers.{gave, Reply, reply, filled}
+use Rattle.promises.specs.Answers.{gave, Reply, reply, filled, turnNumbers, yieldedNumbers}
 use Rattle.promises.specs.Refusals.{unfoldRefusal}
 use Rattle.promises.specs.Lifts.{liftIn, liftedBy, Distinct}
 use Rattle.promises.specs.LiftLaws.{lifted-at}
@@ -33,11 +38,49 @@ use Rattle.promises.specs.BookLaws.{unless-zero}
 use Rattle.promises.specs.WritingLaws.{held-fits}
 use Rattle.promises.specs.Runs.{started, calls, last}
 use Rattle.promises.specs.Demands.{Answered}
-use Rattle.promises.specs.ReadBack.{SectionsHold, ReadsBack, ReadBackHolds}
+use Rattle.promises.specs.ReadBack.{SectionIs, SectionsHold, ReadsBack, ReadBackHolds}
 use Rattle.promises.proofs.Keeping.{gave-accepted, said-is, list-is, letters-of, whole}
 use Rattle.promises.proofs.Finding.{not-outside}
 use Rattle.promises.proofs.Answering.{answered}
 use Rattle.promises.proofs.Demand3.{one}
+
+-- From the four numbers to what is yielded
+
+entry : {l m : List ℕ} (i : ℕ) → l ≡ m → getD l i 0 ≡ getD m i 0
+entry i e = ap (λ l. getD l i 0) e
+
+same-place : {p q : Place} → p .0 ≡ q .0 → p ≡ q
+same-place e = ap (λ x. record { 0 = x }) e
+
+turn-one : (x y : Turn) (k l a b : ℕ) → turnNumbers k x a ≡ turnNumbers l y b → x ≡ y
+turn-one (OnPick p) (OnPick q) k l a b e = ap OnPick (same-place (entry 2 e))
+turn-one (OnPick p) (Between q) k l a b e = absurd (omega (arith, entry 0 e))
+turn-one (Between p) (OnPick q) k l a b e = absurd (omega (arith, entry 0 e))
+turn-one (Between p) (Between q) k l a b e = ap Between (same-place (entry 2 e))
+
+turn-some : (x : Turn) (k a : ℕ) → 0 < getD (turnNumbers k x a) 0 0
+turn-some (OnPick p) k a = omega arith
+turn-some (Between p) k a = omega arith
+
+turn-others : (x : Turn) (k a : ℕ) → (getD (turnNumbers k x a) 1 0 ≡ k) × (getD (turnNumbers k x a) 3 0 ≡ a)
+turn-others (OnPick p) k a = (refl, refl)
+turn-others (Between p) k a = (refl, refl)
+
+yielded-one : (x y : Yielded) (a b : ℕ) → yieldedNumbers x a ≡ yieldedNumbers y b → (x ≡ y) × (a ≡ b)
+yielded-one (Next s) (Next t) a b e =
+    let x = turn-others (s .turn) (s .length) a in
+    let y = turn-others (t .turn) (t .length) b in (
+      ap₂ (λ l u. Next (record { length = l; turn = u })) (sym (x .0) ∙ entry 1 e ∙ y .0) (turn-one (s .turn) (t .turn) (s .length) (t .length) a b e),
+      sym (x .1) ∙ entry 3 e ∙ y .1,
+    )
+yielded-one (Next s) Nothing a b e = absurd (omega (arith, turn-some (s .turn) (s .length) a, entry 0 e))
+yielded-one Nothing (Next t) a b e = absurd (omega (arith, turn-some (t .turn) (t .length) b, entry 0 e))
+yielded-one Nothing Nothing a b e = (refl, entry 3 e)
+
+pub section-is : SectionIs
+section-is bytes at r e =
+    let h = yielded-one (r .yielded) (yieldAt bytes at .yielded) (r .next) (yieldAt bytes at .next) e in
+    ap₂ (λ y n. record { yielded = y; next = n }) (h .0) (h .1)
 
 pub sections : SectionsHold
 sections bytes = record { passes = λ p fs h. yields-law h; none = λ h at. yields-none bytes h at }

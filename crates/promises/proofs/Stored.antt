@@ -5,6 +5,8 @@ use mathlib.Core.List.{List, [], _∷_, _++_}
 use Prim.Native.Nat.{ℕ}
 use native.Mathlib.Decide.{ℕ-discrete}
 use lib.ListN.{length}
+use Rattle.words.specs.Definitions.{word}
+use Rattle.words.specs.GatheredWords.{row-is, gathered-word-is}
 use Rattle.promises.specs.declared.Draft.{Draft}
 use Rattle.promises.specs.declared.Started.{Started}
 use Rattle.promises.specs.declared.Fed.{Fed}
@@ -13,7 +15,7 @@ use Rattle.promises.specs.declared.Marked.{Marked}
 use Rattle.promises.specs.Refusals.{startRefusal, feedRefusal, loadRefusal}
 use Rattle.promises.specs.LiftLaws.{lifted-length}
 use Rattle.promises.specs.Marks.{markAt, markLength, setMark, entries}
-use Rattle.promises.specs.Book.{Book, Call, blank, startedBook, fedBook, loadedBook, markedBook, backBook, startTaken, feedTaken, loadTaken, write, writeAll, bookOf}
+use Rattle.promises.specs.Book.{Book, Call, lifted, blank, startedBook, fedBook, loadedBook, markedBook, backBook, startTaken, feedTaken, loadTaken, write, writeAll, bookOf}
 use Rattle.promises.specs.Replies.{orRefused, refusalOf}
 use Rattle.promises.specs.BookLaws.{Case, taken, left, start-cases, empty-taken, unless-zero, unless-not}
 use Rattle.promises.specs.State.{emptyUnder, withLifts, withMarks, withPick, withPicks, stateOfBook, marksOf, withMark, cutTo}
@@ -30,7 +32,10 @@ pub words-hold : WordsHold
 words-hold d K r ms o =
     let b = bookOf (calls (started K r ∷ ms)) in
     let g = rw (lifted-length (b .lifts) (b .row)) at (whole o .arrays .gathers) in
-    record { rows = g .rows; gathered = g .all }
+    record {
+      rows = λ i l. rw (g .rows i l) (row-is (b .K) (word (lifted b)) i);
+      gathered = λ i l. rw (g .all i l) (gathered-word-is (b .K) (word (lifted b)) (length (b .row)) i l);
+    }
 
 -- one pick more at the end
 picks-more : (d : Draft) (picks : List ℕ) (pick : ℕ) → withPicks d (picks ++ pick ∷ []) ≡ withPick (withPicks d picks) pick

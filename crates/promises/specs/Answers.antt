@@ -28,6 +28,11 @@ use Rattle.promises.specs.declared.LiftAnswer.{LiftAnswer}
 use Rattle.promises.specs.declared.LiftAnswer.the-variants.{Lift, Refused as LiftRefused}
 use Rattle.promises.specs.declared.UnfoldAnswer.{UnfoldAnswer}
 use Rattle.promises.specs.declared.UnfoldAnswer.the-variants.{Unfolded, Refused as UnfoldRefused, RefusedAt as UnfoldRefusedAt}
+use Rattle.layout.specs.declared.Turn.{Turn}
+use Rattle.layout.specs.declared.Turn.the-variants.{OnPick, Between}
+use Rattle.layout.specs.declared.Yielded.{Yielded}
+use Rattle.layout.specs.declared.Yielded.the-variants.{Next, Nothing}
+use Rattle.layout.specs.declared.Found.{Found}
 
 pub data Said : Type 0 where
   gave : List ℕ → Said
@@ -108,3 +113,17 @@ abbrev pub unfoldSays : UnfoldAnswer → Said
 unfoldSays (Unfolded picks) = gave (picks ∷ [])
 unfoldSays (UnfoldRefused number) = refused number
 unfoldSays (UnfoldRefusedAt number place) = refusedAt number place
+
+-- What a reader yields, in four numbers: 1 for a turn on a pick, 2 for one between two picks, 0 for none; the section's length, the turn's
+-- place; and the place after it. A reader refuses nothing
+
+abbrev pub turnNumbers : (length : ℕ) → Turn → (next : ℕ) → List ℕ
+turnNumbers length (OnPick place) next = 1 ∷ length ∷ place .0 ∷ next ∷ []
+turnNumbers length (Between place) next = 2 ∷ length ∷ place .0 ∷ next ∷ []
+
+abbrev pub yieldedNumbers : Yielded → (next : ℕ) → List ℕ
+yieldedNumbers (Next section) next = turnNumbers (section .length) (section .turn) next
+yieldedNumbers Nothing next = 0 ∷ 0 ∷ 0 ∷ next ∷ []
+
+abbrev pub foundNumbers : Found → List ℕ
+foundNumbers f = yieldedNumbers (f .yielded) (f .next)

@@ -10,11 +10,11 @@ use lib.ListN.{length}
 use borrow.Author.Tests.{le-leb, eqb-true}
 use Rattle.words.specs.Definitions.{mostPicks, mostSections, mostVisits, firstLetter, lastLetter}
 use Rattle.words.specs.Ranges.{between}
-use Rattle.promises.specs.Answers.{refused, refusedAt, Under, Reply, reply}
+use Rattle.promises.specs.Answers.{Said, refused, refusedAt, Under, Reply, reply}
 use Rattle.promises.specs.Refusals.{test, line7, startRefusal, feedRefusal, loadRefusal, letterRefusal}
 use Rattle.promises.specs.Lifts.{tableSize, noneZero, firstZero}
 use Rattle.promises.specs.Book.{Book, Call, start, feed, load, mark, back, ask, startTaken, feedTaken, loadTaken}
-use Rattle.promises.specs.Replies.{unless, placed}
+use Rattle.promises.specs.Replies.{unlessSaid, unless, refusalTo}
 
 -- Whether the book takes a call, and the call's number
 
@@ -70,43 +70,45 @@ empty-taken b lifts t =
     let r = and-eq-true-iff (eqb (length lifts) tableSize) (noneZero lifts && eqb (length (b .row)) 0) .0 t .1 in
     none-left (b .row) (eqb-true _ _ (and-eq-true-iff (noneZero lifts) (eqb (length (b .row)) 0) .0 r .1))
 
--- A reply under a number
+-- A reply under a number, however it is said
+
+module _ (refusal : ℕ → Said) where
+  pub said-zero : (number : ℕ) (list : List ℕ) (accepted : Reply) → number ≡ 0 → unlessSaid refusal number list accepted ≡ accepted
+  unfolding unlessSaid
+  said-zero number list accepted e = rw e
+
+  pub said-not : (number : ℕ) (list : List ℕ) (accepted : Reply) → number ≢ 0 → unlessSaid refusal number list accepted ≡ reply (refusal number) list
+  unfolding unlessSaid
+  said-not zero list accepted f = absurd (f refl)
+  said-not (suc number) list accepted f = refl
+
+  -- what is accepted counts only where the number is 0
+  pub said-as : (number : ℕ) (list : List ℕ) (x y : Reply) → (number ≡ 0 → x ≡ y) → unlessSaid refusal number list x ≡ unlessSaid refusal number list y
+  unfolding unlessSaid
+  said-as zero list x y f = f refl
+  said-as (suc number) list x y f = refl
+
+-- and by the number alone
 
 pub unless-zero : (number : ℕ) (list : List ℕ) (accepted : Reply) → number ≡ 0 → unless number list accepted ≡ accepted
-unfolding unless
-unless-zero number list accepted e = rw e
+unless-zero = said-zero refused
 
 pub unless-not : (number : ℕ) (list : List ℕ) (accepted : Reply) → number ≢ 0 → unless number list accepted ≡ reply (refused number) list
-unfolding unless
-unless-not zero list accepted f = absurd (f refl)
-unless-not (suc number) list accepted f = refl
+unless-not = said-not refused
 
--- what is accepted counts only where the number is 0
 pub unless-as : (number : ℕ) (list : List ℕ) (x y : Reply) → (number ≡ 0 → x ≡ y) → unless number list x ≡ unless number list y
-unfolding unless
-unless-as zero list x y f = f refl
-unless-as (suc number) list x y f = refl
+unless-as = said-as refused
 
--- A place beside the number
-
+-- with a place or without
 at-zero : (number place : ℕ) (b : Bool) → Under (cond b (refusedAt number place) (refused number)) number
 at-zero number place true = inr (place, refl)
 at-zero number place false = inl refl
 
--- the number stays
-pub placed-under : (call : Call) (number : ℕ) (list : List ℕ) → Under (placed call (reply (refused number) list) .said) number
-placed-under (start K) number list = inl refl
-placed-under (feed pick visits) number list = inl refl
-placed-under (load lifts) number list = at-zero number (firstZero lifts) (eqb number 15)
-placed-under (mark name) number list = inl refl
-placed-under (back name) number list = inl refl
-placed-under (ask q) number list = inl refl
-
--- and so does the list
-pub placed-list : (call : Call) (r : Reply) → placed call r .list ≡ r .list
-placed-list (start K) r = refl
-placed-list (feed pick visits) r = refl
-placed-list (load lifts) r = refl
-placed-list (mark name) r = refl
-placed-list (back name) r = refl
-placed-list (ask q) r = refl
+-- the number is the one given
+pub refusal-under : (call : Call) (number : ℕ) → Under (refusalTo call number) number
+refusal-under (start K) number = inl refl
+refusal-under (feed pick visits) number = inl refl
+refusal-under (load lifts) number = at-zero number (firstZero lifts) (eqb number 15)
+refusal-under (mark name) number = inl refl
+refusal-under (back name) number = inl refl
+refusal-under (ask q) number = inl refl

@@ -4,9 +4,9 @@ use mathlib.Core.Bool.{true}
 use mathlib.Core.Logic.{_↔_, _≢_}
 use mathlib.Core.List.{List, [], _∷_, _++_, map, List·Memᴰ}
 use Prim.Native.Nat.{ℕ, _+_, _-_, _*_, _^_, _≤_}
-use lib.ListN.{length, take, drop}
-use Rattle.words.specs.Definitions.{mostSections, From, word, centre, lengthAt, LongestEnding, nextLeading, Follows, Visits, Split, Named, turnCount, Rising}
-use Rattle.words.specs.Computed.{rowWord, gatheredWord}
+use lib.ListN.{length, take, drop, getD}
+use Rattle.words.specs.Definitions.{mostSections, From, word, centre, lengthAt, LongestEnding, nextLeading, Follows, Visits, Split, Named, turnCount, Rising, RowWord, GatheredWord}
+use Rattle.layout.specs.Record.{recordOf}
 use Rattle.models.specs.Stores.{at}
 use Rattle.promises.specs.declared.Draft.{Draft}
 use Rattle.promises.specs.declared.Started.{Started}
@@ -16,10 +16,10 @@ use Rattle.promises.specs.declared.Marked.{Marked}
 use Rattle.promises.specs.Answers.{Said, gave, refused, refusedAt, Under, Reply, reply, filled, startSays, feedSays, loadSays, markSays}
 use Rattle.promises.specs.Lifts.{liftIn, FirstZero}
 use Rattle.promises.specs.Book.{Book, Call, start, feed, load, mark, back, ask, split, longest, mask, next, fold, lift, blank, lent, lifted, fedLifted, startTaken, feedTaken, loadTaken, markTaken, backTaken, bookOf}
-use Rattle.promises.specs.Listed.{First, NoneMet, recordLonger, noSplit, noEnding, noSuchMark, fifthName, listed, sought, lines, showLines}
+use Rattle.promises.specs.Listed.{Line, First, NoneMet, listed, sought, lines, showLines}
 use Rattle.promises.specs.Says.{Yes, Says, PartOf}
 use Rattle.promises.specs.State.{stateOfBook}
-use Rattle.promises.specs.Promises.{Reads, ShowPromise, ShowNumberPromise}
+use Rattle.promises.specs.Promises.{Reads, ShowPromise, ShowPlace, ShowNumberPromise}
 use Rattle.promises.specs.Replies.{replies}
 use Rattle.promises.specs.Runs.{Made, started, fed, loaded, marked, returned, callOf, calls, replyOf, Meets, leaves, Run, last}
 
@@ -57,13 +57,8 @@ abbrev pub soughtNumbers : Call → List ℕ
 soughtNumbers call = map (λ l. l .number) (sought blank call)
 
 -- "a place coming beside the number where one is named": of the numbers of a call on a state 15 has one, that of the first lift of 0
-abbrev pub PlaceOf : Call → (number place : ℕ) → Type 0
-PlaceOf (start K) number place = ⊥
-PlaceOf (feed pick visits) number place = ⊥
-PlaceOf (load lifts) number place = (number ≡ 15) × FirstZero lifts place
-PlaceOf (mark name) number place = ⊥
-PlaceOf (back name) number place = ⊥
-PlaceOf (ask q) number place = ⊥
+pub data PlaceOf : Call → (number place : ℕ) → Type 0 where
+  ofZero : {lifts : List ℕ} {place : ℕ} → FirstZero lifts place → PlaceOf (load lifts) 15 place
 
 -- for one call, on any state whatever
 pub record Demand1 (d : Draft) (m : Made) : Type 0 where
@@ -83,17 +78,10 @@ pub record Demand1 (d : Draft) (m : Made) : Type 0 where
 abbrev pub NoneListed : Book → Call → Type 0
 NoneListed b call = NoneMet (listed (length (b .row)) (b .K) call)
 
--- 9, 10, 5, 18 and 17, each by itself: exactly where no line before it is met, and it is
-pub record Late (b : Book) (call : Call) (r : Reply) : Type 0 where
-  pub split9 : (i k : ℕ) (ends : List ℕ) → call ≡ ask (split i k ends)
-      → (r .said ≡ refused 9) ↔ (NoneListed b call × noSplit (lifted b) i k .Met)
-  pub next10 : (c : ℕ) → call ≡ ask (next c) → (r .said ≡ refused 10) ↔ (NoneListed b call × noEnding (lifted b) c .Met)
-  pub record9 : (i k : ℕ) (output : List ℕ) → call ≡ ask (fold i k output)
-      → (r .said ≡ refused 9) ↔ (NoneListed b call × noSplit (lifted b) i k .Met)
-  pub record5 : (i k : ℕ) (output : List ℕ) → call ≡ ask (fold i k output)
-      → (r .said ≡ refused 5) ↔ (NoneListed b call × recordLonger (b .row) (lifted b) i k output .Met)
-  pub mark18 : (name : ℕ) → call ≡ mark name → (r .said ≡ refused 18) ↔ (NoneListed b call × fifthName (b .marks) name .Met)
-  pub back17 : (name : ℕ) → call ≡ back name → (r .said ≡ refused 17) ↔ (NoneListed b call × noSuchMark (b .marks) name .Met)
+-- each of these lines by itself: refused under its number exactly where none of the lines before them all is met, and it is
+unfoldable pub Late : Said → (NoneBefore : Type 0) → List Line → Type 0
+Late said NoneBefore [] = Unit
+Late said NoneBefore (l ∷ ls) = ((said ≡ refused (l .number)) ↔ (NoneBefore × l .Met)) × Late said NoneBefore ls
 
 -- for a call of a run, b being the book before it
 pub record Answered (b : Book) (call : Call) (r : Reply) : Type 0 where
@@ -104,7 +92,8 @@ pub record Answered (b : Book) (call : Call) (r : Reply) : Type 0 where
   -- "Every other call is accepted", and says what document 01 says
   pub accepts : Accepted (r .said) ↔ NoneMet (lines b call)
   pub says : NoneMet (lines b call) → Says b call r
-  pub late : Late b call r
+  -- 9 of a split, 10 of the next shorter ending, 9 and 5 of a record, 18 of a mark, 17 of going back
+  pub late : Late (r .said) (NoneListed b call) (sought b call)
 
 -- each call of the run: the calls after it may be none
 abbrev pub Demand1Run : List Made → Type 0
@@ -129,14 +118,33 @@ pub record EndsRight (i k : ℕ) (before : List ℕ) (r : Reply) : Type 0 where
   pub rising : Rising i 0 ends
   pub is : r ≡ reply (gave (turnCount ends ∷ [])) (filled ends before)
 
--- show and its companion, on one input: 4, then 6, else the part
-pub record ShowRight (letters ends : List ℕ) (s : ℕ) (part : List ℕ) (number : ℕ) : Type 0 where
+-- a record of prefix i in k sections, whatever is stored: that of the stored letters, w, in k sections whose ends rise from above 0 to i
+pub record RecordRight (w : ℕ → ℕ) (i k : ℕ) (before : List ℕ) (r : Reply) : Type 0 where
+  pub ends : List ℕ
+  pub count : length ends ≡ k
+  pub rising : Rising i 0 ends
+  pub fits : length (recordOf w i ends) ≤ length before
+  pub is : r ≡ reply (gave (length (recordOf w i ends) ∷ [])) (filled (recordOf w i ends) before)
+
+-- the longest ending's centre, whatever is stored: a centre from 1 to 2n+1
+pub record LongestRight (n : ℕ) (said : Said) : Type 0 where
+  pub c : ℕ
+  pub says : said ≡ gave (c ∷ [])
+  pub within : From 1 (2 * n + 1) c
+
+-- Of a mask and of a radius the documents fix nothing more there: the mask is that of the stored row word; the radius is the one that is
+-- stored at the centre or, behind the longest ending's centre, at its mirror image (`foundIn`)
+
+-- show and its companion, on one input: 4, then 6, else the part; lent and at are the addresses of the letters and of the part
+pub record ShowRight (letters ends : List ℕ) (s : ℕ) (lent at : ℕ × ℕ) (part : List ℕ) (number : ℕ) : Type 0 where
   pub refuses : (x : ℕ) → x ≢ 0 → (number ≡ x) ↔ First (showLines letters ends s) x
   -- "A refused show hands back an empty part"
   pub empty : number ≢ 0 → part ≡ []
   -- "0 for an accepted show"
   pub accepts : (number ≡ 0) ↔ NoneMet (showLines letters ends s)
   pub gives : NoneMet (showLines letters ends s) → PartOf letters ends s part
+  -- it stands among the lent letters, behind those of the sections before it
+  pub place : NoneMet (showLines letters ends s) → (at .0 ≡ lent .0) × (at .1 ≡ lent .1 + getD (0 ∷ ends) (s - 1) 0)
 
 -- lift, whatever is stored: 7, then 2, else the lift that is stored
 pub record LiftRight (d : Draft) (letter : ℕ) (said : Said) : Type 0 where
@@ -221,9 +229,9 @@ pub record Demand3 (d : Draft) (ms : List Made) : Type 0 where
 
 -- "The row word of prefix i ..", "The gathered word at place i .. After every call all gathered words hold this."
 pub record WordsRight (d : Draft) (ms : List Made) : Type 0 where
-  pub rows : (i : ℕ) → i ≤ length (rowOf ms) → at (last d ms .rows) i ≡ rowWord (sectionsOf ms) (word (liftedOf ms)) i
+  pub rows : (i : ℕ) → i ≤ length (rowOf ms) → RowWord (sectionsOf ms) (word (liftedOf ms)) i (at (last d ms .rows) i)
   pub gathered : (i : ℕ) → i ≤ length (rowOf ms)
-      → at (last d ms .gathered) i ≡ gatheredWord (sectionsOf ms) (word (liftedOf ms)) (length (rowOf ms)) i
+      → GatheredWord (sectionsOf ms) (word (liftedOf ms)) (length (rowOf ms)) i (at (last d ms .gathered) i)
 
 -- Of every call on any state; and of every run that opens with an accepted start, each one claim about the whole list
 
@@ -235,6 +243,13 @@ NextHolds = (d : Draft) (c : ℕ) (r : Reply) → Reads d (next c) r → Accepte
 
 abbrev pub SplitHolds : Type 0
 SplitHolds = (d : Draft) (i k : ℕ) (before : List ℕ) (r : Reply) → Reads d (split i k before) r → Accepted (r .said) → EndsRight i k before r
+
+abbrev pub RecordHolds : Type 0
+RecordHolds = (d : Draft) (i k : ℕ) (before : List ℕ) (r : Reply) → Reads d (fold i k before) r → Accepted (r .said)
+    → RecordRight (word (d .letters)) i k before r
+
+abbrev pub LongestHolds : Type 0
+LongestHolds = (d : Draft) (r : Reply) → Reads d longest r → Accepted (r .said) → LongestRight (d .n) (r .said)
 
 abbrev pub LiftHolds : Type 0
 LiftHolds = (d : Draft) (letter : ℕ) (r : Reply) → Reads d (lift letter) r → LiftRight d letter (r .said)
@@ -266,5 +281,6 @@ Transcript = OfEveryRun (λ d ms. map replyOf ms ≡ replies blank (calls ms))
 -- Of every call that is given no state
 
 abbrev pub ShowHolds : Type 0
-ShowHolds = (letters ends : List ℕ) (s : ℕ) (part : List ℕ) (number : ℕ) → ShowPromise letters ends s part → ShowNumberPromise letters ends s number
-    → ShowRight letters ends s part number
+ShowHolds = (letters ends : List ℕ) (s : ℕ) (lent at : ℕ × ℕ) (part : List ℕ) (number : ℕ)
+    → ShowPromise letters ends s part → ShowPlace letters ends s lent at → ShowNumberPromise letters ends s number
+    → ShowRight letters ends s lent at part number

@@ -3,7 +3,7 @@
 use mathlib.Core.Path.{_≡_}
 use mathlib.Core.List.{List, [], _∷_, map}
 use mathlib.Core.Option.{Option, some, none}
-use Prim.Native.Nat.{ℕ, suc, _-_}
+use Prim.Native.Nat.{ℕ, suc, _-_, _≤_}
 use Prim.Native.String.{String}
 use lib.ListN.{length, take, drop, getD}
 use Rattle.words.specs.Definitions.{mostSections, mostVisits}
@@ -12,8 +12,9 @@ use Rattle.promises.specs.Answers.{gave, refused, Reply, reply, filled}
 use Rattle.promises.specs.Lifts.{fixedLifts}
 use Rattle.promises.specs.Marks.{noMarks}
 use Rattle.promises.specs.Book as calls
-use Rattle.promises.specs.Book.{Book, book, Call}
+use Rattle.promises.specs.Book.{Book, book, Call, bookOf}
 use Rattle.promises.specs.Replies.{fedMask, replyTo}
+use Rattle.promises.specs.Demands.{Answered}
 
 pub data Question : Type 0 where
   mask visits moved : Question
@@ -63,13 +64,16 @@ table =
 
 -- What a row says of the replies
 
--- the visits are those of the last pick: the book before it, and the pick
+-- the picks that are fed before the question: the visits are those of the last pick
+abbrev pub rowFor : List ℕ → Question → List ℕ
+rowFor u mask = u
+rowFor u visits = take (length u - 1) u
+rowFor u moved = u
+rowFor u (splitIn k) = u
+rowFor u (radiusAt c) = u
+
 abbrev pub bookFor : List ℕ → Question → Book
-bookFor u mask = book mostSections fixedLifts u noMarks
-bookFor u visits = book mostSections fixedLifts (take (length u - 1) u) noMarks
-bookFor u moved = book mostSections fixedLifts u noMarks
-bookFor u (splitIn k) = book mostSections fixedLifts u noMarks
-bookFor u (radiusAt c) = book mostSections fixedLifts u noMarks
+bookFor u q = book mostSections fixedLifts (rowFor u q) noMarks
 
 abbrev pub lastPick : List ℕ → ℕ
 lastPick u = getD u (length u - 1) 0
@@ -104,3 +108,19 @@ abbrev pub Right : Row → Type 0
 Right r = (list : List ℕ) → length list ≡ entries (r .question)
     → replyTo (bookFor (r .letters) (r .question)) (callFor (r .letters) (r .question) list)
     ≡ replyWith (r .letters) (r .question) (r .answer) list
+
+-- and of the definitions: what the table has is refused by the first line that the call meets, or says what document 01 says
+abbrev pub Means : Row → Type 0
+Means r = (list : List ℕ) → length list ≡ entries (r .question)
+    → Answered (bookFor (r .letters) (r .question)) (callFor (r .letters) (r .question) list) (replyWith (r .letters) (r .question) (r .answer) list)
+
+-- feeds of these picks, each with a visit list of 19 entries or more
+pub data Feeds : (picks : List ℕ) → List Call → Type 0 where
+  noFeed : Feeds [] []
+  oneMore : {pick : ℕ} {picks list : List ℕ} {cs : List Call} → mostVisits ≤ length list → Feeds picks cs
+      → Feeds (pick ∷ picks) (calls.feed pick list ∷ cs)
+
+-- the book is that of a start with 8 and these feeds
+abbrev pub Kept : Row → Type 0
+Kept r = (cs : List Call) → Feeds (rowFor (r .letters) (r .question)) cs
+    → bookOf (calls.start mostSections ∷ cs) ≡ bookFor (r .letters) (r .question)

@@ -23,8 +23,8 @@ use Rattle.promises.specs.Answers.{gave, refused, refusedAt, Reply, repl
 use Rattle.promises.specs.Refusals.{test, line7, line14, line15, line16, loadRefusal}
 use Rattle.layout.specs.Record.{recordOf}
 use Rattle.promises.specs.Lifts.{tableSize, noneZero, firstZero}
-use Rattle.promises.specs.Book.{Query, ask, split, fold, lent}
-use Rattle.promises.specs.Replies.{unless, orNoSplit, orTooLong, splitReply, recordReply, refusalOf, atZero}
+use Rattle.promises.specs.Book.{load, Query, ask, split, fold, lent}
+use Rattle.promises.specs.Replies.{unless, orNoSplit, orTooLong, splitReply, recordReply, refusalOf, refusalTo}
 use Rattle.promises.specs.State.{numbersOf, withLifts}
 use Rattle.promises.specs.Promises.{splitHeld, foundIn, computedTo, LoadPromise}
 use Rattle.promises.specs.Lent.{loadedAs, LoadsOn, ReadsOn}
@@ -132,7 +132,7 @@ module _ (rows R : List ℕ) (n s k i : ℕ) (before : List ℕ) (b : Bool) (aft
 -- Load: 7 and 14, then the place of the first lift of 0, then 16
 
 -- a number that is not 15 has no place
-plain-number : (lifts : List ℕ) (number : ℕ) → (number ≡ 15 → ⊥) → refused number ≡ atZero lifts (refused number)
+plain-number : (lifts : List ℕ) (number : ℕ) → (number ≡ 15 → ⊥) → refused number ≡ refusalTo (load lifts) number
 plain-number lifts number f = simp (ne-eqb number 15 f)
 
 table-small : (s t : Bool) → orElse (test s 7 0) (test t 14 0) ≤ 14
@@ -154,7 +154,7 @@ module _ (held : Numbers) (before lifts : List ℕ) (number : ℕ) (e : number �
 
   -- refused under a number of the order, what is lent is as it was
   refused-under : (x : ℕ) (answer : LoadAnswer) → x ≡ orElse number (orElse (line15 lifts 0) (line16 (held .n) 0)) → (x ≡ 0 → ⊥)
-      → loadSays answer ≡ atZero lifts (refused x) → LoadsOn held before lifts answer before
+      → loadSays answer ≡ refusalTo (load lifts) x → LoadsOn held before lifts answer before
   refused-under x answer o f s d h p =
       subst (λ l. LoadPromise d lifts (loadedAs answer (withLifts d l))) p (load-refused d lifts x (o ∙ number-of d h) answer s f)
 

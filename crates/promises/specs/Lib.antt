@@ -11,9 +11,9 @@ pub mod State
 pub mod Holds
 pub mod Promises
 pub mod Lent
-pub mod Drafts
 pub mod Runs
 pub mod Demands
+pub mod Drafts
 pub mod Marking
 pub mod Unread
 pub mod ReadBack

@@ -120,6 +120,10 @@ distinct-at (x ∷ l) e i zero h m = absurd (omega arith)
 distinct-at (x ∷ l) e zero (suc j) h m = differ x (getD l j 0) (every-at (differs x) l (and-eq-true-iff (every (differs x) l) (distinct l) .0 e .0) j (omega arith))
 distinct-at (x ∷ l) e (suc i) (suc j) h m = distinct-at l (and-eq-true-iff (every (differs x) l) (distinct l) .0 e .1) i j (omega arith) (omega arith)
 
+-- "So A lifts 3 and Z lifts 96."
+pub fixed-ends : (liftIn fixedLifts firstLetter ≡ 3) × (liftIn fixedLifts lastLetter ≡ 96)
+fixed-ends = (refl, refl)
+
 pub lift-two : (letter : ℕ) → firstLetter ≤ letter → letter ≤ lastLetter → (liftIn fixedLifts letter < 256) × (bitsSet (liftIn fixedLifts letter) ≡ 2)
 unfolding two-bits
 lift-two letter a b =

@@ -5,7 +5,7 @@ use mathlib.Core.Path.{_≡_}
 use mathlib.Core.Logic.{_≢_}
 use mathlib.Core.List.{List, [], _∷_}
 use mathlib.Core.Option.{Option}
-use Prim.Native.Nat.{ℕ, _/_, _%_, _≤_}
+use Prim.Native.Nat.{ℕ, _+_, _/_, _%_, _≤_}
 use lib.ListN.{length, drop}
 use Rattle.words.specs.Definitions.{mostVisits, word}
 use Rattle.words.specs.Computed.{NextShorter}
@@ -20,7 +20,7 @@ use Rattle.promises.specs.declared.Fed.{Fed}
 use Rattle.promises.specs.declared.Loaded.{Loaded}
 use Rattle.promises.specs.declared.Marked.{Marked}
 use Rattle.promises.specs.declared.UnfoldAnswer.{UnfoldAnswer}
-use Rattle.promises.specs.Answers.{Said, gave, refused, Reply, reply, startSays, feedSays, loadSays, markSays, unfoldSays}
+use Rattle.promises.specs.Answers.{Said, gave, refused, Reply, reply, startSays, feedSays, loadSays, markSays, unfoldSays, foundNumbers}
 use Rattle.promises.specs.Refusals.{startRefusal, feedRefusal, loadRefusal, showRefusal}
 use Rattle.promises.specs.Lifts.{liftIn}
 use Rattle.promises.specs.Marks.{markAt, markLength}
@@ -28,7 +28,7 @@ use Rattle.promises.specs.Book.{Book, write, Call, Query, start, feed, l
 use Rattle.layout.specs.declared.Found.{Found}
 use Rattle.layout.specs.Record.{recordOf}
 use Rattle.layout.specs.Yield.{yieldAt}
-use Rattle.promises.specs.Replies.{unless, orNoSplit, orNoEnding, orTooLong, orNoMark, orFifthName, gives, splitReply, recordReply, refusalOf, atZero, replyTo, shown, unfoldReply}
+use Rattle.promises.specs.Replies.{unlessSaid, unless, orNoSplit, orNoEnding, orTooLong, orNoMark, orFifthName, gives, splitReply, recordReply, refusalOf, refusalTo, replyTo, shown, shownBehind, unfoldReply}
 use Rattle.promises.specs.State.{fresh, arraysOf, withLifts, codeIn, withPick, marksOf, withMark, cutTo}
 use Rattle.promises.specs.Holds.{Holds}
 
@@ -74,7 +74,7 @@ pub record LoadPromise (d : Draft) (lifts : List ℕ) (r : Loaded) : Type 0 wher
   pub meaning : (b : Book) → Holds d b → Writes b (load lifts) (reply (loadSays (r .answer)) []) (r .state)
   -- "A refused table leaves the former in force"
   pub refuses : loadRefusal (d .n) (d .k) lifts ≢ 0
-      → (loadSays (r .answer) ≡ atZero lifts (refused (loadRefusal (d .n) (d .k) lifts))) × (r .state ≡ d)
+      → (loadSays (r .answer) ≡ refusalTo (load lifts) (loadRefusal (d .n) (d .k) lifts)) × (r .state ≡ d)
   pub computes : loadRefusal (d .n) (d .k) lifts ≡ 0 → (loadSays (r .answer) ≡ gave []) × (r .state ≡ withLifts d lifts)
 
 -- Mark and back: found is what the stored marks say, next the state after an accepted call
@@ -114,7 +114,7 @@ foundIn d (fold i k output) = recordReply (word (d .letters)) i (splitHeld d k i
 foundIn d (lift letter) = gives (liftIn (d .lifts) letter ∷ [])
 
 unfoldable pub computedTo : Draft → Query → Reply
-unfolding unless refusalOf lent foundIn
+unfolding unlessSaid refusalOf lent foundIn
 computedTo d q = unless (refusalOf (d .n) (d .k) (ask q)) (lent (ask q)) (foundIn d q)
 
 -- one promise for all of them
@@ -124,9 +124,13 @@ pub record Reads (d : Draft) (q : Query) (r : Reply) : Type 0 where
 
 -- The calls that are given no state
 
--- the part of the lent letters; it is a part of them by its type
+-- the letters of the part
 abbrev pub ShowPromise : (letters ends : List ℕ) (s : ℕ) (part : List ℕ) → Type 0
 ShowPromise letters ends s part = part ≡ shown letters ends s
+
+-- and where it stands, "that part of the lent letters itself": of an address the memory block and the byte in it; lent is the letters' own
+abbrev pub ShowPlace : (letters ends : List ℕ) (s : ℕ) (lent part : ℕ × ℕ) → Type 0
+ShowPlace letters ends s lent part = (part .0 ≡ lent .0) × (part .1 ≡ lent .1 + shownBehind letters ends s)
 
 -- the companion: "0 for an accepted show"
 abbrev pub ShowNumberPromise : (letters ends : List ℕ) (s number : ℕ) → Type 0
@@ -138,4 +142,4 @@ UnfoldPromise bytes before r after = reply (unfoldSays r) after ≡ unfoldReply 
 
 -- one step of a reader: what it yields at a place, and the place after it
 abbrev pub SectionPromise : (bytes : List ℕ) (at : ℕ) (r : Found) → Type 0
-SectionPromise bytes at r = r ≡ yieldAt bytes at
+SectionPromise bytes at r = foundNumbers r ≡ foundNumbers (yieldAt bytes at)

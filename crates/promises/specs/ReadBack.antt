@@ -6,6 +6,7 @@ use Prim.Native.Nat.{ℕ, _≤_, _<_}
 use lib.ListN.{length, take}
 use Rattle.words.specs.Definitions.{word, prefix, lengthsBack, Named}
 use Rattle.layout.specs.declared.Section.{Section}
+use Rattle.layout.specs.declared.Found.{Found}
 use Rattle.layout.specs.Record.{Folded}
 use Rattle.layout.specs.Layout.{Every, Letter, Layout, BreaksAt, Passes}
 use Rattle.layout.specs.Unfolding.{picksOf, Unfolds}
@@ -16,7 +17,7 @@ use Rattle.promises.specs.Answers.{Said, gave, refusedAt, Under, Reply, 
 use Rattle.promises.specs.Lifts.{liftedBy, Distinct}
 use Rattle.promises.specs.Book.{fold, bookOf}
 use Rattle.promises.specs.Listed.{First, NoneMet, unfoldLines}
-use Rattle.promises.specs.Promises.{Reads, UnfoldPromise}
+use Rattle.promises.specs.Promises.{Reads, UnfoldPromise, SectionPromise}
 use Rattle.promises.specs.Runs.{Made, calls, last}
 use Rattle.promises.specs.Demands.{Accepted, rowOf, OfEveryRun}
 
@@ -58,6 +59,10 @@ PlacesHold = (bytes : List ℕ) → PlaceRight bytes
 pub record SectionsRight (bytes : List ℕ) : Type 0 where
   pub passes : (picks : ℕ) (fs : List Folded) → Passes bytes picks fs → Yields bytes picks fs
   pub none : ((picks : ℕ) (fs : List Folded) → Passes bytes picks fs → ⊥) → (at : ℕ) → yieldAt bytes at ≡ nothingAt at
+
+-- the numbers of `Answers.antt` tell every case apart: what a step promises is what is yielded
+abbrev pub SectionIs : Type 0
+SectionIs = (bytes : List ℕ) (at : ℕ) (r : Found) → SectionPromise bytes at r → r ≡ yieldAt bytes at
 
 abbrev pub SectionsHold : Type 0
 SectionsHold = (bytes : List ℕ) → SectionsRight bytes

@@ -19,10 +19,14 @@ use Rattle.promises.specs.Lifts.{liftIn, firstZero}
 use Rattle.promises.specs.Marks.{Marks, markAt, isMark, roomFor}
 use Rattle.promises.specs.Book.{Book, write, Call, start, feed, load, mark, back, ask, split, longest, mask, radius, next, fold, lift, lent, lifted, fedLifted}
 
--- "A refusal returns its number only; state and lent buffers keep every byte."
-unfoldable pub unless : (number : ℕ) (list : List ℕ) → Reply → Reply
-unless zero list accepted = accepted
-unless (suc number) list accepted = reply (refused (suc number)) list
+-- "A refusal returns its number only; state and lent buffers keep every byte.": refusal is how the number is said
+unfoldable pub unlessSaid : (refusal : ℕ → Said) (number : ℕ) (list : List ℕ) → Reply → Reply
+unlessSaid refusal zero list accepted = accepted
+unlessSaid refusal (suc number) list accepted = reply (refusal (suc number)) list
+
+-- the number alone
+abbrev pub unless : (number : ℕ) (list : List ℕ) → Reply → Reply
+unless = unlessSaid refused
 
 -- 9. "No division of the prefix into k sections exists."
 unfoldable pub orNoSplit : Option (List ℕ) → (list : List ℕ) → (List ℕ → Reply) → Reply
@@ -90,20 +94,15 @@ refusalOf n K (ask (next c)) = centreRefusal n K c
 refusalOf n K (ask (fold i k output)) = recordRefusal n K i k
 refusalOf n K (ask (lift letter)) = letterRefusal n K letter
 
--- "15, a lift of 0, with the first one's place from 0"
-abbrev pub atZero : (lifts : List ℕ) → Said → Said
-atZero lifts (gave values) = gave values
-atZero lifts (refused number) = cond (eqb number 15) (refusedAt number (firstZero lifts)) (refused number)
-atZero lifts (refusedAt number place) = refusedAt number place
-
--- no other number of a call on a state names a place
-abbrev pub placed : Call → Reply → Reply
-placed (start K) r = r
-placed (feed pick list) r = r
-placed (load lifts) r = reply (atZero lifts (r .said)) (r .list)
-placed (mark name) r = r
-placed (back name) r = r
-placed (ask q) r = r
+-- How a call says the number under which it is refused: "15, a lift of 0, with the first one's place from 0"; no other number of a call on a
+-- state names a place
+abbrev pub refusalTo : Call → (number : ℕ) → Said
+refusalTo (start K) number = refused number
+refusalTo (feed pick list) number = refused number
+refusalTo (load lifts) number = cond (eqb number 15) (refusedAt number (firstZero lifts)) (refused number)
+refusalTo (mark name) number = refused number
+refusalTo (back name) number = refused number
+refusalTo (ask q) number = refused number
 
 -- From the book: palindromes are read by lifts, a record has the letters
 
@@ -131,8 +130,8 @@ foundFor b (ask (fold i k output)) = recordReply (word (b .row)) i (splitOf (wor
 foundFor b (ask (lift letter)) = gives (liftIn (b .lifts) letter ∷ [])
 
 unfoldable pub replyTo : Book → Call → Reply
-unfolding unless refusalOf lent foundFor
-replyTo b call = placed call (unless (refusalOf (length (b .row)) (b .K) call) (lent call) (foundFor b call))
+unfolding unlessSaid refusalOf lent foundFor
+replyTo b call = unlessSaid (refusalTo call) (refusalOf (length (b .row)) (b .K) call) (lent call) (foundFor b call)
 
 -- call by call, the book being written between
 unfoldable pub replies : Book → List Call → List Reply
@@ -148,12 +147,17 @@ sectionOf letters ends s = take (getD (0 ∷ ends) s 0 - getD (0 ∷ ends) (s - 
 
 -- "A refused show hands back an empty part"
 unfoldable pub shown : (letters ends : List ℕ) (s : ℕ) → List ℕ
-unfolding unless showRefusal sectionOf
+unfolding unlessSaid showRefusal sectionOf
 shown letters ends s = unless (showRefusal letters ends s) [] (reply (gave []) (sectionOf letters ends s)) .list
+
+-- how many of the lent letters stand before the part that is handed back: those of the sections before it, none where it is refused
+unfoldable pub shownBehind : (letters ends : List ℕ) (s : ℕ) → ℕ
+unfolding showRefusal
+shownBehind letters ends s = cond (eqb (showRefusal letters ends s) 0) (getD (0 ∷ ends) (s - 1) 0) 0
 
 -- by what was read of the bytes: 11 with its place, then 12 and 5, else the picks at the list's front, and how many
 unfoldable pub unfoldedTo : Reading → (list : List ℕ) → Reply
-unfolding unless unfoldRefusal picksOf
+unfolding unlessSaid unfoldRefusal picksOf
 unfoldedTo (breaks place) list = reply (refusedAt 11 place) list
 unfoldedTo (whole picks fs) list =
     unless (unfoldRefusal (total fs) picks (length list)) list (reply (gave (picks ∷ [])) (filled (picksOf fs) list))

@@ -13,7 +13,7 @@ use Rattle.words.specs.Definitions.{Rising, done, next}
 use Rattle.words.specs.Computed.{rising?, risen-none, risen-next}
 use Rattle.promises.specs.Answers.{gave, reply}
 use Rattle.promises.specs.Refusals.{line6, showRefusal}
-use Rattle.promises.specs.Replies.{sectionOf, shown}
+use Rattle.promises.specs.Replies.{sectionOf, shown, shownBehind}
 use Rattle.promises.specs.Promises.{ShowPromise}
 use Rattle.promises.specs.RefusalLaws.{show-fits}
 use Rattle.promises.specs.BookLaws.{unless-zero, unless-not}
@@ -97,6 +97,14 @@ module _ (letters ends : List ℕ) (s number : ℕ) (e : number ≡ showRefusal 
   pub show-refused : 0 < number → ShowPromise letters ends s []
   unfolding shown
   show-refused l = sym (ap (λ r. r .list) (unless-not (showRefusal letters ends s) [] (reply (gave []) (sectionOf letters ends s)) (λ z. omega (arith, e, z))))
+
+  pub behind-refused : 0 < number → shownBehind letters ends s ≡ 0
+  unfolding shownBehind
+  behind-refused l = simp (ne-eqb (showRefusal letters ends s) 0 (λ z. omega (arith, e, z)))
+
+  pub behind-given : number ≤ 0 → shownBehind letters ends s ≡ getD (0 ∷ ends) (s - 1) 0
+  unfolding shownBehind
+  behind-given l = simp (eq-eqb (showRefusal letters ends s) 0 (omega (arith, e)))
 
   pub show-given : number ≤ 0 → (a b : ℕ) → a ≡ getD (0 ∷ ends) (s - 1) 0 → b ≡ getD (0 ∷ ends) s 0
       → ShowPromise letters ends s (take (b - a) (drop a letters))

@@ -28,10 +28,10 @@ use Rattle.promises.specs.Refusals.{startRefusal, feedRefusal, loadRefus
 use Rattle.promises.specs.Lifts.{fixedLifts, liftIn, liftedBy}
 use Rattle.promises.specs.Marks.{Marks, noMarks, entries}
 use Rattle.promises.specs.Book.{Book, book, startedBook, fedBook, feed, load, lent, lifted, fedLifted, feedTaken, loadTaken, write}
-use Rattle.promises.specs.Replies.{fedMask, fedVisits, refusalOf, atZero, placed, foundFor, replyTo}
+use Rattle.promises.specs.Replies.{fedMask, fedVisits, refusalOf, refusalTo, foundFor, replyTo}
 use Rattle.promises.specs.LiftLaws.{lifted-length, lifted-more}
 use Rattle.promises.specs.RefusalLaws.{start-fits, FeedFits, feed-fits}
-use Rattle.promises.specs.BookLaws.{Case, taken, left, feed-cases, load-cases, empty-taken, unless-zero, unless-not}
+use Rattle.promises.specs.BookLaws.{Case, taken, left, feed-cases, load-cases, empty-taken, said-zero, said-not, unless-zero, unless-not}
 use Rattle.promises.specs.State.{draftIn, centresOf, placesOf, emptyUnder, fresh, arraysOf, stateWith, withLifts, codeIn, withPick}
 use Rattle.promises.specs.Lent.{startedAs, loadedAs}
 use Rattle.promises.specs.Holds.{Holds}
@@ -226,7 +226,7 @@ module _ (d : Draft) (pick : ℕ) (before : List ℕ) (number : ℕ) (e : number
 -- Load
 
 module _ (d : Draft) (lifts : List ℕ) (number : ℕ) (e : number ≡ loadRefusal (d .n) (d .k) lifts) where
-  load-refused-means : (answer : LoadAnswer) → loadSays answer ≡ atZero lifts (refused number) → number ≢ 0 → {b : Book} → Holds d b
+  load-refused-means : (answer : LoadAnswer) → loadSays answer ≡ refusalTo (load lifts) number → number ≢ 0 → {b : Book} → Holds d b
       → Writes b (load lifts) (reply (loadSays answer) []) d
   unfolding replyTo refusalOf lent foundFor write
   load-refused-means answer s f {b} h = go (load-case h lifts)
@@ -234,14 +234,14 @@ module _ (d : Draft) (lifts : List ℕ) (number : ℕ) (e : number ≡ loadRefus
       go : Case (loadTaken b lifts) (loadRefusal (length (b .row)) (b .K) lifts) → Writes b (load lifts) (reply (loadSays answer) []) d
       go (taken t z) = absurd (f (e ∙ load-number h lifts ∙ z))
       go (left t z) = record {
-        replies = ap (λ x. reply x []) (s ∙ ap (λ x. atZero lifts (refused x)) (e ∙ load-number h lifts)) ∙ ap (placed (load lifts)) (sym (unless-not _ [] _ z));
+        replies = ap (λ x. reply x []) (s ∙ ap (refusalTo (load lifts)) (e ∙ load-number h lifts)) ∙ sym (said-not (refusalTo (load lifts)) _ [] _ z);
         holds = rw t h;
       }
 
-  pub load-refused : (answer : LoadAnswer) → loadSays answer ≡ atZero lifts (refused number) → number ≢ 0 → LoadPromise d lifts (loadedAs answer d)
+  pub load-refused : (answer : LoadAnswer) → loadSays answer ≡ refusalTo (load lifts) number → number ≢ 0 → LoadPromise d lifts (loadedAs answer d)
   load-refused answer s f = record {
     meaning = λ b h. load-refused-means answer s f h;
-    refuses = λ _. (s ∙ ap (λ x. atZero lifts (refused x)) e, refl);
+    refuses = λ _. (s ∙ ap (refusalTo (load lifts)) e, refl);
     computes = λ z. absurd (f (e ∙ z));
   }
 
@@ -256,7 +256,7 @@ module _ (d : Draft) (lifts : List ℕ) (number : ℕ) (e : number ≡ loadRefus
       go : Case (loadTaken b lifts) (loadRefusal (length (b .row)) (b .K) lifts) → Writes b (load lifts) (reply (gave []) []) (withLifts d lifts)
       go (left t z) = absurd (z (sym (e ∙ load-number h lifts) ∙ q))
       go (taken t z) = record {
-        replies = ap (placed (load lifts)) (sym (unless-zero _ [] _ z));
+        replies = sym (said-zero (refusalTo (load lifts)) _ [] _ z);
         holds = rw t (record {
           least = h .least;
           most = h .most;

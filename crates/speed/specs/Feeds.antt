@@ -18,31 +18,32 @@ abbrev pub maskOf : FeedAnswer → ℕ
 maskOf (Taken mask count) = mask
 maskOf (Refused number) = 0
 
--- d is the state before the first pick, the last one that after the last
-pub data Feeds (d : Draft) : (picks : List ℕ) → Draft → (masks : List ℕ) → Type 0 where
-  none : Feeds d [] d []
-  more : {picks masks before after : List ℕ} {e f : Draft} {pick : ℕ} {answer : FeedAnswer} → Feeds d picks e masks
-      → FeedPromise e pick before (fedAs answer f) after → Feeds d (picks ++ pick ∷ []) f (masks ++ maskOf answer ∷ [])
+-- d is the state before the first pick, the last one that after the last; list is the visit list before, and each feed is lent it as the one
+-- before left it
+pub data Feeds (d : Draft) (list : List ℕ) : (picks : List ℕ) → Draft → (masks list' : List ℕ) → Type 0 where
+  none : Feeds d list [] d [] list
+  more : {picks masks before after : List ℕ} {e f : Draft} {pick : ℕ} {answer : FeedAnswer} → Feeds d list picks e masks before
+      → FeedPromise e pick before (fedAs answer f) after → Feeds d list (picks ++ pick ∷ []) f (masks ++ maskOf answer ∷ []) after
 
--- all picks were fed; state is what the arrays are afterwards, by its numbers. The masks stand at the front of their list
-pub record FeedsAll (d : Draft) (picks masks : List ℕ) (longest : ℕ) (state : Numbers → Draft) (masks' : List ℕ) : Type 0 where
+-- all picks were fed; state is what the arrays are afterwards, by its numbers, list' the visit list. The masks stand at the front of theirs
+pub record FeedsAll (d : Draft) (picks list masks : List ℕ) (longest : ℕ) (state : Numbers → Draft) (list' masks' : List ℕ) : Type 0 where
   pub held : Numbers
   pub told : List ℕ
-  pub feeds : Feeds d picks (state held) told
+  pub feeds : Feeds d list picks (state held) told list'
   pub centre : longest ≡ held .longest .0
   pub stored : masks' ≡ sets masks 0 told
 
 -- i picks were fed
-pub record Reaches (d : Draft) (picks masks : List ℕ) (i : ℕ) (e : Draft) (masks' : List ℕ) : Type 0 where
+pub record Reaches (d : Draft) (picks list masks : List ℕ) (i : ℕ) (e : Draft) (list' masks' : List ℕ) : Type 0 where
   pub told : List ℕ
-  pub feeds : Feeds d (take i picks) e told
+  pub feeds : Feeds d list (take i picks) e told list'
   pub count : length told ≡ i
   pub stored : masks' ≡ sets masks 0 told
 
 -- one more
-pub reaches-more : {d e f : Draft} (picks masks : List ℕ) (i : ℕ) {masks' masks'' before after : List ℕ} {answer : FeedAnswer} (mask : ℕ)
-    → i < length picks → Reaches d picks masks i e masks' → FeedPromise e (getD picks i 0) before (fedAs answer f) after
-    → mask ≡ maskOf answer → masks'' ≡ set masks' i mask → Reaches d picks masks (i + 1) f masks''
+pub reaches-more : {d e f : Draft} {list : List ℕ} (picks masks : List ℕ) (i : ℕ) {masks' masks'' before after : List ℕ} {answer : FeedAnswer} (mask : ℕ)
+    → i < length picks → Reaches d picks list masks i e before masks' → FeedPromise e (getD picks i 0) before (fedAs answer f) after
+    → mask ≡ maskOf answer → masks'' ≡ set masks' i mask → Reaches d picks list masks (i + 1) f after masks''
 reaches-more picks masks i {answer = answer} mask l h p m s =
     let z : i + 1 ≡ suc i = omega arith in
     record {

@@ -25,8 +25,8 @@ fn mask_of(a: FeedAnswer) -> u8
     }
 }
 
-// Feeds the picks, K = 8, from no pick and centre 1 on, under these lifts and whatever the arrays hold; each pick's mask is stored.
-// Gives the centre of the longest ending.
+// Feeds the picks, K = 8, from no pick and centre 1 on, under these lifts and whatever the arrays hold, each with the visit list as the
+// one before left it; each pick's mask is stored. Gives the centre of the longest ending.
 #[no_mangle]
 pub extern "C" fn feed_all(
     letters: &mut Letters,
@@ -41,9 +41,9 @@ pub extern "C" fn feed_all(
     ensures { λ r. ⌜ ((marks : List ℕ) → FeedsAll
         (draftIn (record { n = 0; k = 8; longest = record { 0 = 1 } })
         (now (letters .entry)) (now (codes .entry)) (now (lifts .entry)) marks (byCentre (now (centres .entry))) (byPlace (now (places .entry))))
-        (now (picks .entry)) (now (masks .entry)) r
+        (now (picks .entry)) (now (visits .entry)) (now (masks .entry)) r
         (λ held. draftIn held (now (letters .exit)) (now (codes .exit)) (now (lifts .entry)) marks (byCentre (now (centres .exit))) (byPlace (now (places .exit))))
-        (now (masks .exit))) ⌝ }
+        (now (visits .exit)) (now (masks .exit))) ⌝ }
 {
     let mut held = Numbers {
         n: 0,

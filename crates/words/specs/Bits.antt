@@ -3,14 +3,14 @@ use mathlib.Core.Path.{_≡_, refl, sym, ap, ap₂, _∙_}
 use mathlib.Core.List.{List, [], _∷_}
 use Prim.Native.Nat.{ℕ, zero, suc, _+_, _-_, _*_, _/_, _%_, _^_, max, _≤_, _<_}
 use native.Mathlib.Omega.{arith}
-use native.Mathlib.Nat.{pow-succ', mul-le-mul-right, div-eq-of-lt, mod-eq-of-lt, mod-lt}
+use native.Mathlib.Nat.{div-div-eq-div-mul, pow-succ', mul-le-mul-right, div-eq-of-lt, mod-eq-of-lt, mod-lt}
 use native.Mathlib.Decide.{ℕ-discrete}
-use lib.Bits.{bitOr, or-step, or-comm, or-self, or-block}
+use lib.Bits.{bitOr, or-step, or-block}
 use lib.Pow.{low, high, field, mod-mod-pow, pow-mono, pow-pos}
-use Rattle.words.specs.Definitions.{bit, Semilattice}
+use Rattle.words.specs.Definitions.{bit}
 use Rattle.words.specs.Computed.{bits, joinAll, raised}
 
--- Union is associative, commutative and idempotent
+-- Union is associative
 
 or-half : (a b : ℕ) → bitOr a b / 2 ≡ bitOr (a / 2) (b / 2)
 or-half a b = omega (arith, or-step a b)
@@ -29,8 +29,36 @@ or-assoc (suc x) a b c h =
     let e : bitOr (bitOr a b / 2) (c / 2) ≡ bitOr (a / 2) (bitOr b c / 2) = rw (or-half a b, or-half b c) h' in
     omega (arith, or-step (bitOr a b) c, or-step a (bitOr b c), or-odd a b, or-odd b c)
 
-pub union-semilattice : Semilattice bitOr
-union-semilattice = record { assoc = λ a b c. or-assoc (a + b + c) a b c (omega arith); comm = or-comm; idem = or-self }
+pub union-assoc : (a b c : ℕ) → bitOr (bitOr a b) c ≡ bitOr a (bitOr b c)
+union-assoc a b c = or-assoc (a + b + c) a b c (omega arith)
+
+-- The bits of any word
+
+bit-low : (x : ℕ) → bit x 0 ≡ x % 2
+bit-low x = omega arith
+
+bit-up : (x k : ℕ) → bit x (suc k) ≡ bit (x / 2) k
+bit-up x k = ap (λ z. z % 2) (ap (λ z. x / z) (pow-succ' 2 k) ∙ sym (div-div-eq-div-mul x 2 (2 ^ k)))
+
+-- a union has a bit where one of the two words has it
+pub union-bit : (k a b : ℕ) → bit (bitOr a b) k ≡ max (bit a k) (bit b k)
+union-bit zero a b = bit-low (bitOr a b) ∙ or-odd a b ∙ ap₂ max (sym (bit-low a)) (sym (bit-low b))
+union-bit (suc k) a b =
+    bit-up (bitOr a b) k ∙ ap (λ z. bit z k) (or-half a b) ∙ union-bit k (a / 2) (b / 2) ∙ ap₂ max (sym (bit-up a k)) (sym (bit-up b k))
+
+-- words with the same bits are the same
+bits-tell : (fuel x y : ℕ) → x + y ≤ fuel → ((k : ℕ) → bit x k ≡ bit y k) → x ≡ y
+bits-tell zero x y h f = omega arith
+bits-tell (suc fuel) x y h f = elim (ℕ-discrete (x + y) 0) [
+  | yes z ↦ omega arith
+  | no z ↦
+      let half = bits-tell fuel (x / 2) (y / 2) (omega arith) (λ k. sym (bit-up x k) ∙ f (suc k) ∙ bit-up y k) in
+      let odd : x % 2 ≡ y % 2 = sym (bit-low x) ∙ f 0 ∙ bit-low y in
+      omega (arith, half, odd)
+]
+
+pub same-bits : (x y : ℕ) → ((k : ℕ) → bit x k ≡ bit y k) → x ≡ y
+same-bits x y f = bits-tell (x + y) x y (omega arith) f
 
 -- The number with bits f 0 to f (K - 1)
 

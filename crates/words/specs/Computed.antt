@@ -7,7 +7,7 @@ use Prim.Native.Nat.{ℕ, zero, suc, _+_, _-_, _*_, _/_, _%_, _^_, _<_}
 use native.Mathlib.Omega.{arith}
 use native.Mathlib.Decide.{decLe, decLt, ℕ-discrete}
 use lib.Bits.{bitOr}
-use Rattle.words.specs.Definitions.{Leading, LeadsFrom, Cubic, Rising, done, next, centre, lengthAt, radius, nextLeading, laterPlaces}
+use Rattle.words.specs.Definitions.{Leading, LeadsFrom, Cubic, Rising, done, next, centre, lengthAt, radius, nextLeading}
 use Rattle.words.specs.Search.{map?, both?, implies?, all?, largest, smallest, passing}
 use Rattle.words.specs.Mirror.{ending?, mirrored?}
 use Rattle.words.specs.Periods.{period?}
@@ -149,6 +149,10 @@ mask K w n = rowWord K w n / 2
 unfoldable pub joinSteps : (ℕ → ℕ → ℕ) → (ℕ → ℕ) → ℕ → ℕ → ℕ → ℕ
 joinSteps op r i p zero = r i
 joinSteps op r i p (suc c) = op (joinSteps op r i p c) (r (i + suc c * p))
+
+-- of the places i, i + p, i + 2p "and so on to j-d-p", how many come after the first: len is j - i, and d is its next shorter leading length
+abbrev pub laterPlaces : ℕ → ℕ → ℕ
+laterPlaces len p = (len - nextLeading len p - p) / p
 
 -- over picks i + 1 to j, with least period p and next shorter leading length d: the values at i, i+p, i+2p "and so on to j-d-p", joined
 unfoldable pub gatherOver : (ℕ → ℕ → ℕ) → (ℕ → ℕ) → (ℕ → ℕ) → ℕ → ℕ → ℕ

@@ -147,10 +147,6 @@ nextLeading len p = min (p + len % p) (len - p)
 abbrev pub Cubic : ℕ → ℕ → Type 0
 Cubic len p = 3 * p ≤ len
 
--- of the places i, i + p, i + 2p "and so on to j-d-p", how many come after the first: len is j - i, and d is its next shorter leading length
-abbrev pub laterPlaces : ℕ → ℕ → ℕ
-laterPlaces len p = (len - nextLeading len p - p) / p
-
 -- each entry is below those before it
 pub data Falling : List ℕ → Type 0 where
   empty : Falling []
@@ -226,8 +222,21 @@ pub data Rising (n : ℕ) : ℕ → List ℕ → Type 0 where
 abbrev pub bit : ℕ → ℕ → ℕ
 bit x k = x / 2 ^ k % 2
 
--- an operation by which row values can be gathered: union of words is one
-pub record Semilattice (op : ℕ → ℕ → ℕ) : Type 0 where
-  pub assoc : (a b c : ℕ) → op (op a b) c ≡ op a (op b c)
-  pub comm : (a b : ℕ) → op a b ≡ op b a
-  pub idem : (a : ℕ) → op a a ≡ a
+-- "The row word of prefix i has bit k set when the prefix is k sections joined, k from 0 to K": x is that word, and has no other bit
+pub record RowWord (K : ℕ) (w : ℕ → ℕ) (i x : ℕ) : Type 0 where
+  pub exactly : (k : ℕ) → k ≤ K → (bit x k ≡ 1) ↔ Joined k (prefix w i)
+  pub past : (k : ℕ) → K < k → bit x k ≡ 0
+
+-- x is "the union of the row words at i, i+p, i+2p and so on to" the last of them: bit k is set when the prefix of one of these places is k
+-- sections joined
+pub record UnionTo (K : ℕ) (w : ℕ → ℕ) (i p last x : ℕ) : Type 0 where
+  pub reached : (c : ℕ) × (i + c * p ≡ last)
+  pub exactly : (k : ℕ) → k ≤ K → (bit x k ≡ 1) ↔ ((c : ℕ) × (i + c * p ≤ last) × Joined k (prefix w (i + c * p)))
+  pub past : (k : ℕ) → K < k → bit x k ≡ 0
+
+-- x is "the gathered word at place i" of n picks: "take the largest j for which picks i+1 to j are a leading ending of prefix j, its least
+-- period p and the length d of the next shorter leading one. The word is the union of the row words at i, i+p, i+2p and so on to j-d-p. At
+-- i = n it is that place's own row word."
+pub record GatheredWord (K : ℕ) (w : ℕ → ℕ) (n i x : ℕ) : Type 0 where
+  pub own : i ≡ n → RowWord K w i x
+  pub below : i < n → (j p d : ℕ) × LastLead w n i j × LeastPeriod w j (j - i) p × NextLeading w j (j - i) d × UnionTo K w i p (j - d - p) x

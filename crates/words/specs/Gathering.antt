@@ -6,14 +6,20 @@ use Prim.Native.Nat.{ℕ, zero, suc, _+_, _-_, _*_, _≤_, _<_}
 use native.Mathlib.Omega.{arith}
 use native.Mathlib.Nat.{mul-le-mul-right}
 use native.Mathlib.Decide.{ℕ-discrete}
-use Rattle.words.specs.Definitions.{Semilattice, Ending, LeastPeriod, Leading, laterPlaces}
+use Rattle.words.specs.Definitions.{Ending, LeastPeriod, Leading}
 use Rattle.words.specs.Search.{passing, passing-is}
 use Rattle.words.specs.Mirror.{ending?}
-use Rattle.words.specs.Computed.{leading?, leastPeriod, joinSteps, gathered, joinAll, visits}
+use Rattle.words.specs.Computed.{leading?, leastPeriod, joinSteps, laterPlaces, gathered, joinAll, visits}
 use Rattle.words.specs.Laws.{least-period, longest-is}
 use Rattle.words.specs.Lengths.{places-end}
 use Rattle.words.specs.Series.{longest-leads, period-fits, series-ending, ending-series, Series, in-series}
 use Rattle.words.specs.Proposition3.{gathered-series}
+
+-- an operation by which values can be gathered: union of words is one
+pub record Semilattice (op : ℕ → ℕ → ℕ) : Type 0 where
+  pub assoc : (a b c : ℕ) → op (op a b) c ≡ op a (op b c)
+  pub comm : (a b : ℕ) → op a b ≡ op b a
+  pub idem : (a : ℕ) → op a a ≡ a
 
 module _ {op : ℕ → ℕ → ℕ} (J : Semilattice op) where
   -- b holds a

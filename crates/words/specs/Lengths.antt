@@ -4,7 +4,8 @@ use Prim.Native.Nat.{ℕ, suc, _+_, _*_, _-_, _/_, _%_, _≤_, _<_}
 use native.Mathlib.Omega.{arith}
 use native.Mathlib.Nat.{div-add-mod', mod-lt, add-mod-right, mul-div-cancel, div-eq-of-eq-mul-left, mul-le-mul-right, lt-of-mul-lt-mul-right}
 use native.Mathlib.Decide.{decLt}
-use Rattle.words.specs.Definitions.{nextLeading, laterPlaces}
+use Rattle.words.specs.Definitions.{nextLeading}
+use Rattle.words.specs.Computed.{laterPlaces}
 
 module _ (len p : ℕ) (pos : 0 < p) (fits : p ≤ len) where
   whole : len / p * p + len % p ≡ len

@@ -17,4 +17,5 @@ pub mod Cases
 pub mod Ranges
 pub mod Splits
 pub mod Rows
+pub mod GatheredWords
 pub mod Prefixes

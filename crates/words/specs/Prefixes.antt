@@ -6,10 +6,10 @@ use Prim.Native.Nat.{ℕ, zero, suc, _+_, _-_, _*_, _≤_, _<_}
 use native.Mathlib.Omega.{arith}
 use native.Mathlib.Decide.{decLt}
 use lib.Bits.{bitOr}
-use Rattle.words.specs.Definitions.{Ending, Mirrored, radius, Period, LeastPeriod, Leading, LastLead, laterPlaces}
+use Rattle.words.specs.Definitions.{Ending, Mirrored, radius, Period, LeastPeriod, Leading, LastLead}
 use Rattle.words.specs.Search.{largest, largest-eq, largest-as, passing-as}
 use Rattle.words.specs.Mirror.{mirror, ending, ending?, mirrored?}
-use Rattle.words.specs.Computed.{leading?, leadsFrom?, leastPeriod, longest, nextEnding, radiusAt, visits, cutLast, splitOf, splits, rowWord, joinSteps, gatherOver, gathered, gatheredWord}
+use Rattle.words.specs.Computed.{leading?, leadsFrom?, leastPeriod, longest, nextEnding, radiusAt, visits, cutLast, splitOf, splits, rowWord, joinSteps, laterPlaces, gatherOver, gathered, gatheredWord}
 use Rattle.words.specs.Laws.{least-period, last-lead}
 use Rattle.words.specs.Lengths.{places-end}
 use Rattle.words.specs.Bits.{bits-as}

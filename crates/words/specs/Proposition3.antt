@@ -3,11 +3,11 @@ use mathlib.Core.Path.{_≡_, refl, sym, ap, _∙_}
 use Prim.Native.Nat.{ℕ, suc, _+_, _-_, _*_, _≤_, _<_}
 use native.Mathlib.Omega.{arith}
 use native.Mathlib.Decide.{decLe, decLt, ℕ-discrete}
-use Rattle.words.specs.Definitions.{Ending, LeastPeriod, Leading, LastLead, NextLeading, Cubic, nextLeading, laterPlaces}
+use Rattle.words.specs.Definitions.{Ending, LeastPeriod, Leading, LastLead, NextLeading, Cubic, nextLeading}
 use Rattle.words.specs.Search.{largest, largest-eq, largest-one, largest-on, smallest, smallest-one}
 use Rattle.words.specs.Mirror.{mirror}
 use Rattle.words.specs.Periods.{shorter, window, overlap, extend, retract}
-use Rattle.words.specs.Computed.{leading?, leadsFrom?, cubic?, leastPeriod, joinSteps, gatherOver, gathered, mended, updated}
+use Rattle.words.specs.Computed.{leading?, leadsFrom?, cubic?, leastPeriod, joinSteps, laterPlaces, gatherOver, gathered, mended, updated}
 use Rattle.words.specs.Laws.{least-period, leads-own, last-lead}
 use Rattle.words.specs.Lengths.{places-end, places-one, places-more}
 use Rattle.words.specs.Series.{period-fits, next-is}

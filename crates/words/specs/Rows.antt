@@ -4,14 +4,17 @@ use mathlib.Core.List.{List, List·Memᴰ}
 use Prim.Native.Nat.{ℕ, zero, suc, _-_, max, _≤_, _<_}
 use native.Mathlib.Omega.{arith}
 use native.Mathlib.Nat.{le-antisymm}
-use lib.Bits.{bitOr}
-use Rattle.words.specs.Definitions.{Ending, Semilattice}
+use lib.Bits.{bitOr, or-comm, or-self}
+use Rattle.words.specs.Definitions.{Ending}
 use Rattle.words.specs.Search.{passing, passing-is}
 use Rattle.words.specs.Mirror.{ending?, section-ending, ending-section}
 use Rattle.words.specs.Computed.{splitOf, splits, rowWord, gatheredWord, joinAll, raised, visits}
 use Rattle.words.specs.Splits.{Splitting, given, lacking, split-law, split-none, cut, split-before, uncut, splits-one, splits-zero, splits-small}
-use Rattle.words.specs.Gathering.{gathering, all-has, all-within}
-use Rattle.words.specs.Bits.{union-semilattice, Bits, up, bits-as, joined-bits, joined-small, raised-bits}
+use Rattle.words.specs.Gathering.{Semilattice, gathering, all-has, all-within}
+use Rattle.words.specs.Bits.{union-assoc, Bits, up, bits-as, joined-bits, joined-small, raised-bits}
+
+union-semilattice : Semilattice bitOr
+union-semilattice = record { assoc = union-assoc; comm = or-comm; idem = or-self }
 
 max-semilattice : Semilattice max
 max-semilattice = record { assoc = λ a b c. omega arith; comm = λ a b. omega arith; idem = λ a. omega arith }

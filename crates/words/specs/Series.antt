@@ -4,9 +4,9 @@ use Prim.Native.Nat.{ℕ, zero, suc, _+_, _*_, _-_, _/_, _%_, _≤_, _<_}
 use native.Mathlib.Omega.{arith}
 use native.Mathlib.Nat.{div-add-mod', mod-lt, mul-le-mul-right, lt-of-mul-lt-mul-right}
 use native.Mathlib.Decide.{decLe, decLt, ℕ-discrete}
-use Rattle.words.specs.Definitions.{Ending, LongestEnding, Period, LeastPeriod, Leading, NextLeading, nextLeading, laterPlaces}
+use Rattle.words.specs.Definitions.{Ending, LongestEnding, Period, LeastPeriod, Leading, NextLeading, nextLeading}
 use Rattle.words.specs.Periods.{Into, ending-period, period-ending, shorter, whole-period, multiple, ending-into, window}
-use Rattle.words.specs.Computed.{leastPeriod}
+use Rattle.words.specs.Computed.{leastPeriod, laterPlaces}
 use Rattle.words.specs.Laws.{least-period}
 use Rattle.words.specs.Lengths.{places-end}
 

@@ -15,8 +15,8 @@ returns c =
     let a = n .before .before .before .before .args in (
       refl,
       (
-        p .write-bytes .ensures .stored ∙ ap (λ z. sets (a .part .now) 0 z) (s .show .ensures),
-        ap₂ (λ x y. x ∷ length y ∷ []) (w .wide .ensures .0 ∙ n .show-number .ensures) (s .show .ensures),
+        p .write-bytes .ensures .stored ∙ ap (λ z. sets (a .part .now) 0 z) (s .show .ensures .0),
+        ap₂ (λ x y. x ∷ length y ∷ []) (w .wide .ensures .0 ∙ n .show-number .ensures) (s .show .ensures .0),
       ),
     )
 

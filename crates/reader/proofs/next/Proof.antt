@@ -48,7 +48,7 @@ use denote.Triple.Walked.{says, Stays, stay-ref, walkOf, goes-ref, Walks, ends-a
 use denote.Signature.{Slot, plain, namedLft}
 use Rattle.reader.specs.declared.Reader.{Reader}
 use Rattle.layout.specs.declared.Found.{Found}
-use Rattle.layout.specs.Yield.{yieldAt}
+use Rattle.promises.specs.Promises.{SectionPromise}
 use Rattle.reader.specs.Reader.{movedTo}
 use Rattle.reader.proofs.Reader as T
 use Rattle.reader.proofs.Reader.Laws as T′
@@ -103,8 +103,9 @@ module _ {M : Type 1} (𝓤 : URA M) (H : Heap 𝓤) (A : Atoms 𝓤) (W : Given
   abbrev mach : ℕ → Val
   mach n = T′.lowered (movedTo h n)
 
-  abbrev found : Found
-  found = yieldAt (h .bytes .now) (h .at)
+  -- what `section_at` promises there
+  abbrev Stepped : Found → Type 0
+  Stepped r = SectionPromise (h .bytes .now) (h .at) r
 
   abbrev Post : Val → SProp 𝓤
   Post = walkOf 𝓤 H A f.ended stayed (f.clauses 𝓤 H A at-mem run) .post (((κ, (κ′, tt)), (q, (q′, tt)), bounds, a, vals), tt)
@@ -125,8 +126,8 @@ module _ {M : Type 1} (𝓤 : URA M) (H : Heap 𝓤) (A : Atoms 𝓤) (W : Given
 
   -- of the callee's `ensured`, the clause alone
   said : (r : Found)
-      → ent 𝓤 (ensured 𝓤 H A at′.ended (at′.clauses 𝓤 H A at-mem run) (κ′, tt) (h .bytes, (h .at, tt)) tt r) (fact 𝓤 (r ≡ found))
-  said r = exE 𝓤 _ (λ ws. snd∗ 𝓤 (sem 𝓤 H A (lasts at′.ended (κ′, tt) (h .bytes, (h .at, tt)) ws)) (fact 𝓤 (r ≡ found)))
+      → ent 𝓤 (ensured 𝓤 H A at′.ended (at′.clauses 𝓤 H A at-mem run) (κ′, tt) (h .bytes, (h .at, tt)) tt r) (fact 𝓤 (Stepped r))
+  said r = exE 𝓤 _ (λ ws. snd∗ 𝓤 (sem 𝓤 H A (lasts at′.ended (κ′, tt) (h .bytes, (h .at, tt)) ws)) (fact 𝓤 (Stepped r)))
 
   -- what the bytes own is kept, and the facts of the place are made anew
   again : (n : ℕ) → n < 2 ^ 64 → ent 𝓤 (sem 𝓤 H A (Own (h .at))) (sem 𝓤 H A (Own n))
@@ -134,7 +135,7 @@ module _ {M : Type 1} (𝓤 : URA M) (H : Heap 𝓤) (A : Atoms 𝓤) (W : Given
       qed W (‵ (Own (h .at)) ∷ []) ∵ owned ! usize (Is usize) (uint-makes 𝓤 H A W w64) n _ (refl, ok) $
       move ! (1 ∷ 0 ∷ []) $ by ! (own-put 𝓤 H A W D L 1 vd n (mach (h .at)))
 
-  exits : (r : Found) (w : Val) → Is S.the-row (r .yielded) (w ∷ []) → r ≡ found
+  exits : (r : Found) (w : Val) → Is S.the-row (r .yielded) (w ∷ []) → Stepped r
       → ent 𝓤 (⋆ 𝓤 H A (‵ (fobs γ (R .coded .code (movedTo h (r .next)))) ∷ ‵ (fbor κ (Body (mem R) b o γ)) ∷ ‵ (flft κ q)
       ∷ (‵ (flft κ′ q′) ⊛ ‵ ftrue) ∷ [])) (Post w)
   exits r w is e =
@@ -143,7 +144,7 @@ module _ {M : Type 1} (𝓤 : URA M) (H : Heap 𝓤) (A : Atoms 𝓤) (W : Given
       suffices ! _
       (ends-at 𝓤 H A f.ended stayed (f.clauses 𝓤 H A at-mem run) W (((κ, (κ′, tt)), (q, (q′, tt)), bounds, a, vals), tt) w
       (r .yielded) (movedTo h (r .next), tt) (tt, tt)) $
-      says ! (ap (λ (z : Found). z .yielded) e, ap (λ (z : Found). movedTo h (z .next)) e) $
+      says ! (e, refl) $
       move ! (2 ∷ 3 ∷ []) $ join ! $ frame ! $ feqI ! (List Val) (vptr b o ∷ []) (vptr b o ∷ []) refl $
       fjoin3 ! $ nothing ! $ move ! (1 ∷ 0 ∷ []) $ fjoin ! $
       owned ! S.the-row (Is S.the-row) (EL.makes S.the-type S′.the-plain 𝓤 H A) (r .yielded) (w ∷ []) is $ move ! (1 ∷ 0 ∷ []) $ done !
@@ -177,7 +178,7 @@ module _ {M : Type 1} (𝓤 : URA M) (H : Heap 𝓤) (A : Atoms 𝓤) (W : Given
         use1 W (later (some (λ (r : Found). ((‵ (flft κ′ q′) ⊛ ‵ ftrue) ⊛ ‵ (F.the-row .own r (u ∷ [])))
         ⊛ raw (ensured 𝓤 H A at′.ended (at′.clauses 𝓤 H A at-mem run) (κ′, tt) (h .bytes, (h .at, tt)) tt r)))) (id⊢ 𝓤 _) $
         await ! tt $ pick ! (λ r.
-        split ! $ move ! (1 ∷ []) $ use1 W (raw (fact 𝓤 (r ≡ found))) (said r) $ heard ! (r ≡ found) (λ e.
+        split ! $ move ! (1 ∷ []) $ use1 W (raw (fact 𝓤 (Stepped r))) (said r) $ heard ! (Stepped r) (λ e.
         split ! $ move ! (1 ∷ []) $ peeks ! F.the-row (Is F.the-row) (shows 𝓤 H A F.the-row) r (u ∷ []) (λ is.
         -- [what r owns; 'a's token; what the struct owns; its cell; the open borrow; obs; auth; _4; …; _3; …; _2; …; _1; …; room for _0; …]
         land ! (from ! (stop !)) (init ! 9 refl (LL.lawful F.the-type F′.the-laws 𝓤 H A W .typed r _ is .0)) $

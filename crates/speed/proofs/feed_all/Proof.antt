@@ -15,8 +15,8 @@ abbrev Inv-loop : tie.InvT-loop
 Inv-loop letters₀ codes₀ lifts centres₀ places₀ visits₀ picks masks₀ held₀ i₀ letters codes centres places visits masks held i =
     (length visits ≡ length visits₀) × (length masks ≡ length masks₀) × (i ≤ length picks)
     × ((marks : List ℕ)
-    → Reaches (draftIn (record { n = 0; k = 8; longest = record { 0 = 1 } }) letters₀ codes₀ lifts marks (byCentre centres₀) (byPlace places₀)) picks masks₀
-    i (draftIn held letters codes lifts marks (byCentre centres) (byPlace places)) masks)
+    → Reaches (draftIn (record { n = 0; k = 8; longest = record { 0 = 1 } }) letters₀ codes₀ lifts marks (byCentre centres₀) (byPlace places₀)) picks visits₀ masks₀
+    i (draftIn held letters codes lifts marks (byCentre centres) (byPlace places)) visits masks)
 
 abbrev μ-loop : tie.MeasureT-loop
 μ-loop letters₀ codes₀ lifts centres₀ places₀ visits₀ picks masks₀ held₀ i₀ letters codes centres places visits masks held i = length picks - i

@@ -1,6 +1,7 @@
+use mathlib.Core.Path.{refl}
 use borrow.Author.Needs.{needs}
 use native.Mathlib.Omega.{arith}
-use Rattle.promises.specs.ShowLaws.{part-fits, show-refused, show-given}
+use Rattle.promises.specs.ShowLaws.{part-fits, show-refused, behind-refused, show-given, behind-given}
 use Rattle.calls.proofs.show.show.Statement.{statement}
 use Rattle.calls.proofs.show.show.Tie as tie
 
@@ -8,7 +9,10 @@ returns : tie.Need-returns
 returns c =
     let a = c .before .before .before .before .before .args in
     let f = c .before .before .show-number in
-    show-refused (a .letters .now) (a .ends .now) (a .s) (f .result) (f .ensures) (c .before .if1 .taken)
+    let l = c .before .if1 .taken in (
+      show-refused (a .letters .now) (a .ends .now) (a .s) (f .result) (f .ensures) l,
+      (refl, omega (arith, behind-refused (a .letters .now) (a .ends .now) (a .s) (f .result) (f .ensures) l)),
+    )
 
 sub-end-of : tie.Need-sub-end-of
 sub-end-of c =
@@ -40,8 +44,12 @@ returns-2 : tie.Need-returns-2
 returns-2 c =
     let a = c .before .before .before .before .before .before .before .args in
     let f = c .before .before .before .before .show-number in
-    show-given (a .letters .now) (a .ends .now) (a .s) (f .result) (f .ensures) (c .before .before .before .if1 .left) (c .before .before .end-of .result) (c .before .end-of2 .result)
-    (c .before .before .end-of .ensures) (c .before .end-of2 .ensures)
+    let l = c .before .before .before .if1 .left in
+    let x = c .before .before .end-of in
+    let y = c .before .end-of2 in (
+      show-given (a .letters .now) (a .ends .now) (a .s) (f .result) (f .ensures) l (x .result) (y .result) (x .ensures) (y .ensures),
+      (refl, omega (arith, x .ensures, behind-given (a .letters .now) (a .ends .now) (a .s) (f .result) (f .ensures) l)),
+    )
 
 pub show-spec : {M : Type 1} → statement M
 show-spec =

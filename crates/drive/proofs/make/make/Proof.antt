@@ -14,8 +14,8 @@ begin x = x .before .before .before .before .before .before
 abbrev left : tie.After-fits2 → Buffers
 left x = let a = begin x .args in buffers (a .lists .now) (a .bytes .now) (a .input .now)
 
-sized : (x : tie.After-fits2) → x .before .sizes-of .result ≡ sizesFor (begin x .args .q .op) (begin x .args .q .m)
-sized x = x .before .sizes-of .ensures ∙ ap (λ w. sizesOf w (begin x .args .q .m)) (x .before .before .source-at .ensures)
+sized : (x : tie.After-fits2) → x .before .sizes-of .result ≡ sizesFor (begin x .args .q .op) (begin x .args .q .x) (begin x .args .q .m)
+sized x = let q = begin x .args .q in x .before .sizes-of .ensures ∙ ap (λ w. sizesOf w (q .x) (q .m)) (x .before .before .source-at .ensures)
 
 fitted : (t : tie.Then1) → Fits (begin (t .before) .args .q .op) (t .before .before .sizes-of .result) (left (t .before))
 fitted t = fits-true _ _ _ (sym (t .before .fits2 .ensures) ∙ t .if1 .taken)

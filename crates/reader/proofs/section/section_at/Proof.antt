@@ -1,8 +1,9 @@
-use mathlib.Core.Path.{_≡_, sym, _∙_}
+use mathlib.Core.Path.{_≡_, sym, ap, _∙_}
 use Prim.Native.Nat.{_-_, _≤_}
 use native.Mathlib.Omega.{arith}
 use lib.ListN.{length}
 use borrow.Author.Needs.{needs}
+use Rattle.promises.specs.Answers.{foundNumbers}
 use Rattle.reader.specs.Numbers.{numbersOf}
 use Rattle.reader.specs.ScanCode.{after, scan-begins, scan-small, scan-step}
 use Rattle.reader.specs.Tracking.{Tracks, tracks-begins, tracks-turn, tracks-ends}
@@ -58,8 +59,9 @@ returns c =
     let h = c .before .before in
     let l = h .loop in
     let p = h .before .before .before .before .args in
-    tracks-ends (p .bytes .now) (l .i) (p .at) (l .from) (l .found) (c .settled .result) (l .s) (omega arith) (l .inv .1) (l .inv .2)
-    (c .settled .ensures)
+    ap foundNumbers
+    (tracks-ends (p .bytes .now) (l .i) (p .at) (l .from) (l .found) (c .settled .result) (l .s) (omega arith) (l .inv .1) (l .inv .2)
+    (c .settled .ensures))
 
 pub section-at-spec : {M : Type 1} → statement M
 section-at-spec =
