@@ -112,7 +112,8 @@ impl Beside {
     /// letters, lifts and marks are the book's, and each pick's stored lift is the one by
     /// them; after going back the whole state is that of the second board.
     fn write(&mut self, call: Call, accepted: bool) {
-        let case = self.case(call);
+        let before = self.book.clone();
+        let case = || case_on(&before, call);
         let taken = match call {
             Call::Start { most_sections } => self.book.start(most_sections.into()),
             Call::Feed { pick, entries } => self.book.feed(pick, entries.into()),
@@ -121,31 +122,36 @@ impl Beside {
             Call::Back { name } => self.book.back(name),
             _ => accepted,
         };
-        assert_eq!(accepted, taken, "accepted or not, {case}");
-        assert_eq!(self.board.n(), self.book.row.len(), "stored n, {case}");
+        assert_eq!(accepted, taken, "accepted or not, {}", case());
+        assert_eq!(self.board.n(), self.book.row.len(), "stored n, {}", case());
         let stored = self.board.most_sections();
-        assert_eq!(stored, self.book.most_sections, "stored K, {case}");
-        assert!(self.board.letters() == self.book.row, "letters, {case}");
-        assert!(self.board.codes() == self.book.word(), "codes, {case}");
-        assert_eq!(self.board.lifts(), self.book.lifts, "lifts, {case}");
+        assert_eq!(stored, self.book.most_sections, "stored K, {}", case());
+        assert!(self.board.letters() == self.book.row, "letters, {}", case());
+        assert!(self.board.codes() == self.book.word(), "codes, {}", case());
+        assert_eq!(self.board.lifts(), self.book.lifts, "lifts, {}", case());
         let marks = self.book.stored_marks();
-        assert_eq!(self.board.marks(), marks, "marks, {case}");
+        assert_eq!(self.board.marks(), marks, "marks, {}", case());
         if let (Call::Back { .. }, true) = (call, accepted) {
-            assert!(self.board == self.fed_anew(), "not as fed anew, {case}");
+            assert!(self.board == self.fed_anew(), "not as fed anew, {}", case());
         }
     }
 
     /// The call and the draft it is made on, for a failure.
     fn case(&self, call: Call) -> String {
-        let row = String::from_utf8_lossy(&self.book.row);
-        let Book {
-            most_sections,
-            lifts,
-            marks,
-            ..
-        } = &self.book;
-        format!("{call:?} on draft {row}, K {most_sections}, lifts {lifts:?}, marks {marks:?}")
+        case_on(&self.book, call)
     }
+}
+
+/// A call and the book before it, for a failure.
+fn case_on(book: &Book, call: Call) -> String {
+    let row = String::from_utf8_lossy(&book.row);
+    let Book {
+        most_sections,
+        lifts,
+        marks,
+        ..
+    } = book;
+    format!("{call:?} on draft {row}, K {most_sections}, lifts {lifts:?}, marks {marks:?}")
 }
 
 /// Makes a call with its list and its output as they are before it.

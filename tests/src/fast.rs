@@ -41,14 +41,24 @@ impl Fast {
             leading: vec![Vec::new()],
             named: vec![splits::of_empty_draft()],
         };
-        for &lift in word {
-            fast.add(lift);
-        }
+        fast.turn_to(word);
         fast
     }
 
+    /// Makes them the tables of another word. The entries of the prefixes that both have stay.
+    pub fn turn_to(&mut self, word: &[u8]) {
+        let pairs = self.word.iter().zip(word);
+        let common = pairs.take_while(|(own, other)| own == other).count();
+        self.word.truncate(common);
+        self.mirrored.truncate(common);
+        self.rows.truncate(common + 1);
+        self.leading.truncate(common + 1);
+        self.named.truncate(common + 1);
+        word[common..].iter().for_each(|&lift| self.add(lift));
+    }
+
     /// Adds the entries of one more prefix; those of the others stay.
-    pub(crate) fn add(&mut self, lift: u8) {
+    fn add(&mut self, lift: u8) {
         self.word.push(lift);
         self.mirrored.add_prefix(&self.word);
         self.rows.push(self.row_by_every_ending());

@@ -15,6 +15,7 @@
 //! proved board, by its static library.
 //! `beside` keeps the book beside that board, `readings` compares how both read a
 //! record, and `listed` holds the refusals that do not hang on the letters.
+//! `support` holds what several test crates share.
 
 pub mod beside;
 pub mod book;
@@ -33,6 +34,7 @@ pub mod samples;
 pub mod scripted;
 pub mod spoken;
 pub mod structured;
+pub mod support;
 pub mod tables;
 
 /// "A draft has 0 to 2,048 picks."

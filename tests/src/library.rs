@@ -1,5 +1,5 @@
-//! The proved board, by the C functions of its static library, as the package `board`
-//! declares them.
+//! The board, by the C functions of its static library, as the package `board` declares them, or
+//! by those that rustc makes of the same text (`functions`).
 //!
 //! Places are in whole picks, centres in half picks. All that is lent stands between
 //! guard entries: letters, codes, lifts, marks, the lanes by centre, those by place, and every
@@ -8,6 +8,7 @@
 
 mod board;
 mod calling;
+mod functions;
 mod guarded;
 mod reading;
 mod running;
@@ -15,6 +16,7 @@ mod stateless;
 
 pub use self::board::Board;
 pub use ::board::{CENTRES, GATHERED, HEADS, LENDS, NEXT, PLACES, PREV, RADIUS, ROWS};
+pub use functions::{on_text, text, Library, PROVED};
 pub use reading::{section_at, unfold};
 pub use running::{Lent, ANSWER_NUMBERS, UNSET};
 pub use stateless::show;

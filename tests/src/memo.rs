@@ -18,15 +18,11 @@ pub fn ask<T>(word: &[u8], most_sections: usize, question: impl FnOnce(&Fast) ->
     })
 }
 
-/// Makes the tables be those of a word that opens with this one: as they are, with more
-/// lifts added, or built anew.
+/// Makes the tables be those of a word that opens with this one.
 fn cover(fast: &mut Fast, word: &[u8], most_sections: usize) {
-    let known = fast.word().len();
     if fast.most_sections() != most_sections {
         *fast = Fast::new(word, most_sections);
-    } else if word.starts_with(fast.word()) {
-        word[known..].iter().for_each(|&lift| fast.add(lift));
     } else if !fast.word().starts_with(word) {
-        *fast = Fast::new(word, most_sections);
+        fast.turn_to(word);
     }
 }

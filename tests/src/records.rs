@@ -5,6 +5,9 @@ use crate::samples::Generator;
 use crate::{FIRST_PICK, LAST_PICK, LINE_END};
 use std::collections::BTreeSet;
 
+/// Bytes that a record may have, commas most often, bytes beside them, and some others.
+pub const BYTES: &[u8] = b"0123456789,,,,,,,,ABCMYZ\n\n/:@[+-. \t\r\0az\xFF";
+
 /// So many letters in their order, A again after Z; the first is the one after so many.
 pub fn half(after: usize, count: usize) -> String {
     let letters = (FIRST_PICK..=LAST_PICK).map(char::from).cycle();
@@ -49,4 +52,19 @@ pub fn one_byte_edits(bytes: &[u8]) -> impl Iterator<Item = Vec<u8>> + '_ {
         let changed = every_byte().map(move |byte| [front, &byte, behind].concat());
         put_in.chain(changed).chain([[front, behind].concat()])
     })
+}
+
+/// So many bytes, each one of these.
+pub fn random_bytes(generator: &mut Generator, bytes: &[u8], count: usize) -> Vec<u8> {
+    (0..count)
+        .map(|_| bytes[generator.below(bytes.len())])
+        .collect()
+}
+
+/// Puts a few bytes in the place of a few others, somewhere.
+pub fn edit(generator: &mut Generator, record: &mut Vec<u8>) {
+    let at = generator.below(record.len() + 1);
+    let behind = record.len().min(at + generator.below(4));
+    let count = generator.below(4);
+    record.splice(at..behind, random_bytes(generator, BYTES, count));
 }

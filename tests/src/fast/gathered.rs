@@ -11,25 +11,32 @@ struct Latest {
     d: usize,
 }
 
+/// The places whose row words are joined at place i: i alone where none is the latest.
+fn joined(i: usize, latest: Option<Latest>) -> impl Iterator<Item = usize> {
+    let Latest { j, p, d } = latest.unwrap_or(Latest {
+        j: i + 1,
+        p: 1,
+        d: 0,
+    });
+    (i..=j - d - p).step_by(p)
+}
+
 impl Fast {
     /// For each place from 0 to n, the places whose row words its gathered word
     /// joins after n picks: i, i+p, i+2p and so on to j-d-p; at n, n alone.
     pub fn gathered_places(&self, n: usize) -> Vec<Vec<usize>> {
-        self.latest_leading(n)
-            .iter()
-            .enumerate()
-            .map(|(i, latest)| match latest {
-                Some(Latest { j, p, d }) => (i..=j - d - p).step_by(*p).collect(),
-                None => vec![i],
-            })
+        let latest = self.latest_leading(n).into_iter().enumerate();
+        latest
+            .map(|(i, latest)| joined(i, latest).collect())
             .collect()
     }
 
     /// The gathered word of each place from 0 to n after n picks.
     pub fn gathered(&self, n: usize) -> Vec<u16> {
-        self.gathered_places(n)
-            .iter()
-            .map(|places| places.iter().fold(0, |word, &i| word | self.row(i)))
+        let latest = self.latest_leading(n).into_iter().enumerate();
+        let words = latest.map(|(i, latest)| joined(i, latest).map(|at| self.row(at)));
+        words
+            .map(|rows| rows.fold(0, |word, row| word | row))
             .collect()
     }
 

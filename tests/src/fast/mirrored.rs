@@ -25,6 +25,11 @@ impl Mirrored {
         self.prefixes.push(closing);
     }
 
+    /// Leaves the stretches of the first so many picks.
+    pub fn truncate(&mut self, picks: usize) {
+        self.prefixes.truncate(picks + 1);
+    }
+
     /// Whether picks i+1 to j are mirrored.
     pub fn is_mirrored(&self, i: usize, j: usize) -> bool {
         self.prefixes[j][i]

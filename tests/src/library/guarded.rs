@@ -61,9 +61,8 @@ impl<T: Guard> Guarded<T> {
 
     /// Whether every guard entry is as it was made.
     pub fn guards_hold(&self) -> bool {
-        let (front, rest) = self.entries.split_at(GUARDS);
-        let back = &rest[rest.len() - GUARDS..];
-        front.iter().chain(back).all(|&entry| entry == T::GUARD)
+        let guards = [T::GUARD; GUARDS];
+        self.entries.starts_with(&guards) && self.entries.ends_with(&guards)
     }
 
     /// Asserts that this lent array is as given, with its guards.

@@ -1,10 +1,10 @@
 //! Scripts of calls.
 
 use super::board::Board;
+use super::functions::{library, Library};
 use super::guarded::Guarded;
 use crate::calls::Refusal;
 use crate::scripted::{refused, script, Call, Reply, VALUES};
-use ::board::functions::drive;
 
 /// Numbers that the library writes for each call: 0 and the values; 1, the refusal number
 /// and zeros; or 2, the number, its place and a zero.
@@ -62,13 +62,18 @@ impl Board {
     /// Makes the calls of a script as far as it and what is lent go. Gives the
     /// number of calls made.
     pub fn run_script(&mut self, script: &[u8], lent: &mut Lent) -> usize {
+        self.run_script_by(library(), script, lent)
+    }
+
+    /// The same by a library.
+    pub fn run_script_by(&mut self, by: &Library, script: &[u8], lent: &mut Lent) -> usize {
         let mut lent_script = Guarded::of(script);
         let mut input = Guarded::of(&lent.input);
         let mut lists = Guarded::of(&lent.lists);
         let mut bytes = Guarded::of(&lent.bytes);
         let mut answers = Guarded::of(&lent.answers);
         let read = [&mut lent_script, &mut input];
-        let made = self.drive(read, &mut lists, &mut bytes, &mut answers);
+        let made = self.drive(by, read, &mut lists, &mut bytes, &mut answers);
         lent_script.assert_kept(script, "script bytes");
         input.assert_kept(&lent.input, "input bytes");
         assert!(self.guards_hold(), "outside the state, script {script:?}");
@@ -81,10 +86,11 @@ impl Board {
         made
     }
 
-    /// The library's function on the state and what is lent: script and input, which
+    /// A library's function on the state and what is lent: script and input, which
     /// are only read, and what is written.
     fn drive(
         &mut self,
+        by: &Library,
         [script, input]: [&mut Guarded<u8>; 2],
         lists: &mut Guarded<u16>,
         bytes: &mut Guarded<u8>,
@@ -93,7 +99,7 @@ impl Board {
         // Safe: each array has its declared length and each slice its own, none
         // overlaps another, and the library keeps no pointer.
         unsafe {
-            drive(
+            (by.drive)(
                 self.letters.pointer(),
                 self.codes.pointer(),
                 self.lifts.pointer(),

@@ -1,0 +1,29 @@
+//! The proved board, called by `comparison::library`, beside the comparison program.
+
+mod alike;
+mod any_state;
+mod back;
+mod back_runs;
+mod edges;
+mod lanes;
+mod lifts;
+mod loads;
+mod long;
+mod long_splits;
+mod made_states;
+mod marks;
+mod order;
+mod parts;
+mod reader;
+mod reader_examples;
+mod reader_layout;
+mod refusals;
+mod runs;
+mod scripts;
+mod show;
+mod small;
+mod splits;
+mod started;
+mod support;
+mod unread;
+mod walks;

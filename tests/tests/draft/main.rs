@@ -1,0 +1,4 @@
+//! The draft program's executable against the draft program as a function.
+
+mod binary;
+mod reading;
