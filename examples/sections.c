@@ -39,7 +39,7 @@ static void feed(const char *draft) {
 static void show(const char *draft, size_t n, size_t k) {
     struct board_split_answer split = board_split(&board, board_prefix(n), k, ends, BOARD_SECTIONS);
     check("split", split.number);
-    printf("%zu sections, %zu turns, %zu tests of at most %zu\n", k, split.turns, split.tests, k * n);
+    printf("%zu sections, %zu turns\n", k, split.turns);
     for (size_t s = 1; s <= k; s++) {
         struct board_show_answer shown = board_show((const uint8_t *)draft, n, ends, k, s);
         check("show", shown.number);

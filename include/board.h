@@ -160,7 +160,6 @@ struct board_next_answer {
 struct board_split_answer {
     size_t number;
     size_t turns; // how many of the sections have two or more picks
-    size_t tests; // how many starts of sections the search looked at: never more than k times the prefix
 };
 struct board_record_answer {
     size_t number;
@@ -357,7 +356,7 @@ static inline struct board_next_answer board_next(struct board *board, struct bo
 static inline struct board_split_answer board_split(struct board *board, struct board_place prefix, size_t k,
                                                     uint16_t *ends, size_t entries) {
     struct board_reply reply = board_make(board, BOARD_SPLIT_CALL, k, prefix.picks, board_list(ends, entries));
-    struct board_split_answer answer = {reply.number, reply.first, reply.second};
+    struct board_split_answer answer = {reply.number, reply.first};
     return answer;
 }
 

@@ -180,10 +180,13 @@ impl Session {
 
     fn split(&mut self, i: usize, k: usize, entries: usize) -> String {
         let mut list = list(entries);
-        let split = self.board.split(Place(i), k, &mut list);
-        let given = split.map_or(0, |_| k);
-        let reply = split.map(|split| vec![split.turns, split.tests]);
-        answer(reply, &Lent::List(&list, given), self.all)
+        let turns = self.board.split(Place(i), k, &mut list);
+        let given = turns.map_or(0, |_| k);
+        answer(
+            turns.map(|turns| vec![turns]),
+            &Lent::List(&list, given),
+            self.all,
+        )
     }
 
     fn record(&mut self, i: usize, k: usize, bytes: usize) -> String {

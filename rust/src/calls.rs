@@ -39,15 +39,6 @@ pub struct NextEnding {
     pub period: usize,
 }
 
-/// What is given for a split, beside its ends.
-#[derive(Clone, Copy, Debug, PartialEq, Eq)]
-pub struct Split {
-    /// How many sections have two or more picks.
-    pub turns: usize,
-    /// How many starts of sections the search looked at: never more than k times the prefix.
-    pub tests: usize,
-}
-
 impl Default for Board {
     fn default() -> Board {
         Board::new()
@@ -270,11 +261,11 @@ impl Board {
     }
 
     /// Split a prefix into k sections: the number of the last pick of each, rising, fills the first
-    /// k entries of the list. Gives the turn count and the tests of the search. Refused with 7, 1,
-    /// 13, 4 or 9.
+    /// k entries of the list. Gives the turn count, which is how many sections have two or more
+    /// picks. Refused with 7, 1, 13, 4 or 9.
     ///
     /// ```
-    /// # use board::{Board, Place, Split, VISITS};
+    /// # use board::{Board, Place, VISITS};
     /// # let mut board = Board::new();
     /// # board.start(8)?;
     /// # for &pick in b"AAA" {
@@ -282,15 +273,15 @@ impl Board {
     /// # }
     /// // The draft is AAA.
     /// let mut ends = [0; 2];
-    /// assert_eq!(board.split(Place(3), 2, &mut ends), Ok(Split { turns: 1, tests: 3 }));
+    /// assert_eq!(board.split(Place(3), 2, &mut ends), Ok(1));
     /// assert_eq!(ends, [1, 3]);
     /// assert_eq!(board.split(Place(1), 2, &mut ends).unwrap_err().number(), 9);
     /// # Ok::<(), board::Refusal>(())
     /// ```
-    pub fn split(&mut self, prefix: Place, k: usize, ends: &mut [u16]) -> Result<Split, Refusal> {
+    pub fn split(&mut self, prefix: Place, k: usize, ends: &mut [u16]) -> Result<usize, Refusal> {
         let call = call(SPLIT, k, prefix.0, ends.len());
-        let [turns, tests, ..] = self.make(call, &[], ends, &mut [])?;
-        Ok(Split { turns, tests })
+        let [turns, ..] = self.make(call, &[], ends, &mut [])?;
+        Ok(turns)
     }
 
     /// The folded record of a prefix in k sections, into the front of the output. Gives its count

@@ -32,7 +32,7 @@ mod script;
 mod state;
 mod stateless;
 
-pub use calls::{Board, NextEnding, Split, Taken};
+pub use calls::{Board, NextEnding, Taken};
 pub use reader::{section, unfold, Reader, Section, Turn};
 pub use refusal::{Refusal, Sentence, SENTENCES};
 pub use script::{ANSWER_NUMBERS, CALL_BYTES};

@@ -52,7 +52,7 @@ int main(void) {
     printf("radius %zu %zu\n", radius.number, radius.radius);
     printf("longest %zu %zu\n", longest.number, longest.centre.half_picks);
     printf("next %zu %zu %zu %zu\n", next.number, next.centre.half_picks, next.length, next.period);
-    printf("split %zu %zu %zu\n", split.number, split.turns, split.tests);
+    printf("split %zu %zu\n", split.number, split.turns);
     printf("record %zu %zu\n", record.number, record.bytes);
     printf("lift %zu %d\n", lift.number, lift.lift);
     printf("unfold %zu %zu %zu\n", unfolded.number, unfolded.place, unfolded.picks);

@@ -182,9 +182,7 @@ static void split(void) {
     size_t prefix = number(), k = number(), entries = least(number_or(least(k, UINT8_MAX)), MOST_LENT);
     uint16_t *ends = lend_list(entries);
     struct board_split_answer answer = board_split(&board, board_prefix(prefix), k, ends, said(entries));
-    print_number(answer.number, answer.turns || answer.tests);
-    if (!answer.number)
-        printf(" %zu %zu", answer.turns, answer.tests);
+    print_value(answer.number, answer.turns);
     print_list(ends, entries);
     free(ends);
 }

@@ -1,4 +1,4 @@
-//! The fifteen calls of document 01 and of requests 2.1 to 2.8, with their refusals.
+//! The fifteen calls of document 01 and of requests 2.1, 2.5 and 2.7, with their refusals.
 //!
 //! "Each call that is given a state, other than start, tests 7 first; every call
 //! then tests those input numbers whose inputs it has, in rising order but for 5,
@@ -24,7 +24,7 @@ pub use loading::load;
 pub use marking::{back, mark};
 pub use reading::{section_at, unfold, Section};
 pub use showing::{show, show_number};
-pub use splitting::{folded_record, split, SplitCounts};
+pub use splitting::{folded_record, split};
 pub use state::State;
 
 /// A call's values, or the number it is refused with.

@@ -29,8 +29,6 @@ pub use picks::{fixed_lifts, is_pick, lift, word, Lifts};
 pub use record::folded_record;
 pub use rows::{is_joined, is_most_sections, mask, row_word};
 pub use show::section;
-pub use splits::{
-    all_splits, are_ends, named_split, section_lengths, test_count, turn_count, SplitCounts,
-};
+pub use splits::{all_splits, are_ends, named_split, section_lengths, turn_count};
 pub use stretch::{centre, is_mirrored, is_period, is_section, least_period, periods, radius};
 pub use unfolding::{turn, unfolded, Turn};

@@ -1,7 +1,7 @@
 //! The calls that are given a state, each with its arguments: both the library and
 //! the comparison program can be given one.
 
-use crate::calls::{self, Answer, NextEnding, Placed, Refusal, SplitCounts, State};
+use crate::calls::{self, Answer, NextEnding, Placed, Refusal, State};
 use crate::tables::Table;
 
 /// Bytes of a script for each call.
@@ -117,8 +117,7 @@ impl Call {
                 calls::feed(state, pick, list).map(|taken| [taken.mask.into(), taken.visits]),
             ),
             Call::Split { prefix, k, .. } => {
-                let counts = calls::split(state, prefix.into(), k.into(), list);
-                values(counts.map(SplitCounts::values))
+                one_value(calls::split(state, prefix.into(), k.into(), list))
             }
             Call::LongestCentre => one_value(calls::longest_centre(state)),
             Call::Mask { prefix } => {

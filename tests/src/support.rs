@@ -7,10 +7,9 @@
 //! that is written out.
 //! `any_states` makes stored states that no run made.
 //! `some_calls` makes calls at random and `call_lines` lines of them; `lines`, `far_places`,
-//! `mark_lines`, `next_lines` and `split_lines` make the lines of one purpose each.
-//! `bad_ends`, `ending_examples`, `lift_examples`, `mark_examples` and `split_counts` are
-//! worked out by hand; `counting` counts turns and tests by the parts of a draft, and the
-//! tests one by one as they are made.
+//! `mark_lines`, `next_lines` and `turn_lines` make the lines of one purpose each.
+//! `bad_ends`, `ending_examples`, `lift_examples`, `mark_examples` and `turn_counts` are
+//! worked out by hand; `turns` counts turns by the parts of a draft.
 //! `own_name` gives names for files that no other test has.
 
 pub mod answered;
@@ -18,7 +17,6 @@ pub mod any_states;
 pub mod bad_ends;
 pub mod call_lines;
 pub mod console;
-pub mod counting;
 pub mod draft_process;
 pub mod ending_examples;
 pub mod executables;
@@ -31,6 +29,7 @@ pub mod next_lines;
 pub mod own_name;
 pub mod process;
 pub mod some_calls;
-pub mod split_counts;
-pub mod split_lines;
 pub mod transcript;
+pub mod turn_counts;
+pub mod turn_lines;
+pub mod turns;

@@ -27,7 +27,7 @@ pub fn fold(
         return RecordAnswer::Refused(number);
     }
     let mut ends = [0u16; SECTIONS];
-    if 0 < split_from(rows, radius, held, i, k, &mut ends) {
+    if split_from(rows, radius, held, i, k, &mut ends) {
         let count = k as usize;
         return write_record(letters, i, &ends[..count], output);
     }

@@ -1,4 +1,4 @@
-// Split: a prefix and k, giving the ends of the split named, its turn count and the tests of the search.
+// Split: a prefix and k, giving the ends of the split named, and its turn count.
 ghost use Rattle.std.specs.Prelude.{◌≡◌};
 ghost use Rattle.promises.specs.Answers.{reply, split_says};
 ghost use Rattle.promises.specs.Book.{split};
@@ -24,11 +24,10 @@ pub fn split(
     if 0 < number {
         return SplitAnswer::Refused(number);
     }
-    let told = split_from(rows, radius, held, i, k, ends);
-    if 0 < told {
+    if split_from(rows, radius, held, i, k, ends) {
         let count = k as usize;
         let turns = turn_count(&ends[..count]);
-        return SplitAnswer::Split(turns, told - 1);
+        return SplitAnswer::Split(turns);
     }
     SplitAnswer::Refused(NO_SPLIT)
 }

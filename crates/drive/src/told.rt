@@ -126,7 +126,7 @@ pub fn split_told(a: SplitAnswer) -> Told
     ensures { numbers_of result ≡ encoded (split_says a) }
 {
     match a {
-        SplitAnswer::Split(turns, tests) => given(turns, tests),
+        SplitAnswer::Split(turns) => given(turns, 0),
         SplitAnswer::Refused(number) => refused(number),
     }
 }

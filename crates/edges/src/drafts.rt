@@ -93,11 +93,9 @@ fn say_split(draft: Draft, k: u8, ends: &mut [u16]) {
     number(k as usize);
     let a = board::split(draft, Place(n), k, ends);
     match a {
-        SplitAnswer::Split(turns, tests) => {
+        SplitAnswer::Split(turns) => {
             text(b" turns");
             number(turns);
-            text(b" tests");
-            number(tests);
             text(b" ends");
             front(ends, ends.len());
         }

@@ -17,14 +17,14 @@ use Rattle.models.specs.Stores.{at}
 use Rattle.models.specs.Iterator.{longest_of, is_ending, period_at}
 use Rattle.models.specs.Iterating.{ending_high}
 use Rattle.models.specs.Answers.{shorter_by}
-use Rattle.models.specs.SplitCode.{split_alike, split_ends, few_looks, tests_sum}
+use Rattle.models.specs.SplitCode.{split_alike, split_ends}
 use Rattle.promises.specs.declared.Draft.{Draft}
 use Rattle.promises.specs.Answers.{refused, Reply, reply}
 use Rattle.promises.specs.Book.{Query, ask, split, longest, mask, radius, next, fold, lift, lent}
-use Rattle.promises.specs.Replies.{unless, or_no_split, or_no_ending, or_too_long, gives, split_with, record_reply, refusal_of}
+use Rattle.promises.specs.Replies.{unless, or_no_split, or_no_ending, or_too_long, gives, split_reply, record_reply, refusal_of}
 use Rattle.promises.specs.State.{numbers_of}
 use Rattle.promises.specs.BookLaws.{unless_zero, unless_not}
-use Rattle.promises.specs.Promises.{mask_byte, split_held, search_reply, found_in, computed_to, Reads}
+use Rattle.promises.specs.Promises.{mask_byte, split_held, found_in, computed_to, Reads}
 use Rattle.promises.specs.Demands.{Accepted, NextRight, NextHolds, EndsRight, SplitHolds, RecordRight, RecordHolds, LongestHolds}
 use Rattle.promises.specs.Unread.{prefixes_to, rows_to, parts_for, state_from, reply_from, PartsHold, other_rows, SplitAlike}
 use Rattle.promises.proofs.Keeping.{said_is}
@@ -63,40 +63,29 @@ next_holds d c r p ok = next_fits d c r ok (passes d c r ok) refl (said_is (foun
 
 pub split_holds : SplitHolds
 unfolding found_in or_no_split
-split_holds d i k before r p ok = go (split_held d k i).found refl (found d (split i k before) r p ok)
+split_holds d i k before r p ok = go (split_held d k i) refl (found d (split i k before) r p ok)
   where
-    go : (o : Option (List ℕ)) → (split_held d k i).found ≡ o → r ≡ split_with (λ ends. (split_held d k i).tests) o before → EndsRight d i k before r
+    go : (o : Option (List ℕ)) → split_held d k i ≡ o → r ≡ split_reply o before → EndsRight i k before r
     go none e q = absurd (ok 9 (inl (said_is q)))
     go (some ends) e q =
         let h = split_ends d.rows d.radius d.n (longest_of d.n d.longest.0) k i ends e in
-        record {
-          ends = ends;
-          count = h.0;
-          rising = h.1;
-          tests = (split_held d k i).tests;
-          is = q;
-          looks = refl;
-          right = record {
-            sum = tests_sum d.rows d.radius d.n (longest_of d.n d.longest.0) k i ends e;
-            few = few_looks d.rows d.radius d.n (longest_of d.n d.longest.0) k i;
-          };
-        }
+        record { ends = ends; count = h.0; rising = h.1; is = q }
 
 pub record_holds : RecordHolds
 unfolding found_in or_no_split or_too_long
-record_holds d i k before r p ok = go (split_held d k i).found refl (found d (fold i k before) r p ok)
+record_holds d i k before r p ok = go (split_held d k i) refl (found d (fold i k before) r p ok)
   where
     w : ℕ → ℕ
     w = word d.letters
 
     fits : (ends : List ℕ) (b : Bool) → leb (length (record_of w i ends)) (length before) ≡ b → r ≡ or_too_long (record_of w i ends) before
-        → (split_held d k i).found ≡ some ends → RecordRight w i k before r
+        → split_held d k i ≡ some ends → RecordRight w i k before r
     fits ends false l q e = let x : r ≡ reply (refused 5) before = q ∙ simp l in absurd (ok 5 (inl (said_is x)))
     fits ends true l q e =
         let h = split_ends d.rows d.radius d.n (longest_of d.n d.longest.0) k i ends e in
         record { ends = ends; count = h.0; rising = h.1; fits = leb-true _ _ l; is = q ∙ simp l }
 
-    go : (o : Option (List ℕ)) → (split_held d k i).found ≡ o → r ≡ record_reply w i o before → RecordRight w i k before r
+    go : (o : Option (List ℕ)) → split_held d k i ≡ o → r ≡ record_reply w i o before → RecordRight w i k before r
     go none e q = absurd (ok 9 (inl (said_is q)))
     go (some ends) e q = fits ends (leb (length (record_of w i ends)) (length before)) refl q e
 
@@ -122,12 +111,12 @@ split_to d k i = split_rows d (rows_to i d) k i (λ j l. row_to d i j (omega ari
 
 found_from : (d : Draft) (q : Query) → found_in d q ≡ found_in (state_from (numbers_of d) (parts_for d q)) q
 unfolding found_in
-found_from d (split i k list) = ap (λ z. search_reply z list) (split_to d k i)
+found_from d (split i k list) = ap (λ o. split_reply o list) (split_to d k i)
 found_from d longest = refl
 found_from d (mask i) = ap (λ x. gives (mask_byte x ∷ [])) (row_to d i i (omega arith))
 found_from d (radius c) = refl
 found_from d (next c) = refl
-found_from d (fold i k output) = ap (λ z. record_reply (word d.letters) i z.found output) (split_to d k i)
+found_from d (fold i k output) = ap (λ o. record_reply (word d.letters) i o output) (split_to d k i)
 found_from d (lift letter) = refl
 
 pub parts_hold : PartsHold
@@ -139,6 +128,6 @@ unfolding computed_to found_in
 split_same d e i k before r s h p q =
     let number : ℕ = refusal_of d.n d.k (ask (split i k before)) in
     p.computes
-    ∙ ap (λ z. unless number before (search_reply z before)) (split_rows d e.rows k i (λ j l. h.rows j (omega arith)))
+    ∙ ap (λ o. unless number before (split_reply o before)) (split_rows d e.rows k i (λ j l. h.rows j (omega arith)))
     ∙ ap (λ x. computed_to x (split i k before)) (sym h.others)
     ∙ sym q.computes

@@ -71,11 +71,11 @@ found_outcome b (ask (lift letter)) p = fine tt (gave_accepted refl) refl
 pub found_only : (d : Draft) (q : Query) → OnlyUnder (lent (ask q)) (sought_numbers (ask q)) (found_in d q)
 unfolding found_in lent sought
 found_only d (split i k list) =
-    no_split_only (split_held d k i).found list [] _ (λ ends. gave_only _ list (filled ends list) (9 ∷ []))
+    no_split_only (split_held d k i) list [] _ (λ ends. gave_only _ list (filled ends list) (9 ∷ []))
 found_only d longest = gave_only _ [] [] []
 found_only d (mask i) = gave_only _ [] [] []
 found_only d (radius c) = gave_only _ [] [] []
 found_only d (next c) = no_ending_only (next_held d c)
 found_only d (fold i k output) =
-    no_split_only (split_held d k i).found output (5 ∷ []) _ (λ ends. too_long_only (record_of (word d.letters) i ends) output)
+    no_split_only (split_held d k i) output (5 ∷ []) _ (λ ends. too_long_only (record_of (word d.letters) i ends) output)
 found_only d (lift letter) = gave_only _ [] [] []

@@ -11,13 +11,13 @@ use lib.Seq.{take_at, drop_at}
 use borrow.Author.Tests.{le-leb}
 use Rattle.words.specs.Cases.{true_false}
 use Rattle.words.specs.Ranges.{between}
-use Rattle.words.specs.Definitions.{most_picks, most_sections, first_letter, last_letter, word, centre, Ending, next_leading, Follows, Visits, test_count}
+use Rattle.words.specs.Definitions.{most_picks, most_sections, first_letter, last_letter, word, centre, Ending, next_leading, Follows, Visits}
 use Rattle.words.specs.Computed.{split_of, visits, longest_centre, least_period, next_ending, shorter_after}
 use Rattle.words.specs.Computed.{longest as longest_of}
 use Rattle.words.specs.Laws.{least_period_lem, longest_is, longest_centre_lem, next_after_lem, visits_are}
 use Rattle.words.specs.FewVisits.{few_visits, visits_some}
 use Rattle.words.specs.Visiting.{visit_leads, visit_next}
-use Rattle.words.specs.Splits.{Splitting, given, lacking, split_law, sections_rise, few_tests}
+use Rattle.words.specs.Splits.{Splitting, given, lacking, split_law}
 use Rattle.models.specs.Core.{means}
 use Rattle.models.specs.Centres.{longest_centre_at}
 use Rattle.promises.specs.declared.Draft.{Draft}
@@ -89,14 +89,7 @@ split_found u i k before said after e = go (split_of (word u) i k) (split_law (w
         record {
           wants = (λ z. absurd (ok 9 (inl z)), λ f. absurd (f ends n.is));
           keeps = λ z. absurd (ok 9 (inl z));
-          gives = λ _. record {
-            ends = ends;
-            named = n;
-            tests = test_count ends;
-            says = said_is q;
-            right = record { sum = refl; few = subst (λ x. test_count ends ≤ x * i) c (few_tests (sections_rise n.is.is)) };
-            list = list_is q ∙ ap (λ x. ends ++ drop x before) c;
-          };
+          gives = λ _. (ends, n, said_is q, list_is q ∙ ap (λ x. ends ++ drop x before) c);
         }
     go o (lacking p f) e =
         let q : reply said after ≡ split_reply none before = e ∙ ap (λ x. split_reply x before) p in

@@ -13,14 +13,13 @@ use Rattle.words.specs.Ranges.{between}
 use Rattle.words.specs.Computed.{longest_centre, split_of}
 use Rattle.words.specs.Computed.{mask as mask_of, visits as lengthsOf, radius_at as radius_of}
 use Rattle.words.specs.Laws.{longest_centre_lem}
-use Rattle.text.specs.Definitions.{bytes}
 use Rattle.promises.specs.Answers.{gave, reply}
 use Rattle.promises.specs.Lifts.{fixed_lifts, lifted_by}
 use Rattle.promises.specs.Replies.{or_no_split, split_reply, refusal_of, fed_visits, found_for, reply_to}
 use Rattle.promises.specs.Marks.{Marks, no_marks}
 use Rattle.promises.specs.Book.{book, Call, lent, feed_taken, write, write_all}
 use Rattle.promises.specs.BookLaws.{unless_zero}
-use Rattle.promises.specs.Drafts.{Question, mask, visits, moved, split_in, radius_at, Row, table, row_for, book_for, last_pick, call_for, entries, reply_with, Right, Means, Feeds, no_feed, one_more, Kept, TestsOfSeven}
+use Rattle.promises.specs.Drafts.{Question, mask, visits, moved, split_in, radius_at, Row, table, row_for, book_for, last_pick, call_for, entries, reply_with, Right, Means, Feeds, no_feed, one_more, Kept}
 use Rattle.promises.specs.Demands.{Answered}
 use Rattle.promises.proofs.Answering.{answered}
 
@@ -98,15 +97,6 @@ drafts r h list l =
     same_number _ most_sections r.letters r.question list (replicate (entries r.question) 0) (l ∙ sym (length-replicate {A = ℕ} (entries r.question) 0))
     ∙ ap (λ x. x.0) e in
     reply_is r.letters r.question r.answer list z (ap (λ x. x.1) e)
-
--- the one split whose tests the documents name
-pub tests_of_seven : TestsOfSeven
-unfolding number bytes found with_turns read
-tests_of_seven list l =
-    let u : List ℕ = bytes "ABACDDC" in
-    let z : refusal_of (length u) most_sections (call_for u (split_in 2) list) ≡ 0 =
-    same_number (length u) most_sections u (split_in 2) list (replicate 2 0) (l ∙ sym (length-replicate {A = ℕ} 2 0)) in
-    reply_is u (split_in 2) (some (2 ∷ 3 ∷ 7 ∷ [])) list z refl
 
 pub drafts_mean : (r : Row) → Memᴰ r table → Means r
 drafts_mean r h list l = subst (Answered _ _) (drafts r h list l) (answered _ _)

@@ -1,5 +1,4 @@
--- The state after a run: every row word and every gathered word by its definition, what a look of the search tells, and the whole of it a
--- function of the book.
+-- The state after a run: every row word and every gathered word by its definition, and the whole of it a function of the book.
 use mathlib.Core.Path.{◌≡◌, refl, sym, ap, ◌∙◌}
 use mathlib.Core.Bool.{Bool, true, false, cond}
 use mathlib.Core.List.{List, [], ◌∷◌, ◌++◌}
@@ -26,8 +25,7 @@ use Rattle.promises.specs.BackLaws.{held_marks, cut_state}
 use Rattle.promises.specs.MarkingLaws.{Goes, mark_goes, back_goes}
 use Rattle.promises.specs.Promises.{StartPromise, FeedPromise, LoadPromise, Marking}
 use Rattle.promises.specs.Runs.{Made, started, fed, loaded, marked, returned, asked, call_of, calls, Meets, leaves, Run, last}
-use Rattle.promises.specs.ReadingLaws.{look_held_lem}
-use Rattle.promises.specs.Demands.{WordsHold, LooksHold, StateOfBook}
+use Rattle.promises.specs.Demands.{WordsHold, StateOfBook}
 use Rattle.promises.proofs.Keeping.{said_is, keep, promise, opened, opens, whole}
 
 pub words_hold : WordsHold
@@ -38,9 +36,6 @@ words_hold d K r ms o =
       rows = λ i l. rw (g.rows i l) (row_is b.K (word (lifted b)) i);
       gathered = λ i l. rw (g.all i l) (gathered_word_is b.K (word (lifted b)) (length b.row) i l);
     }
-
-pub looks_hold : LooksHold
-looks_hold d K r ms o = record { tells = λ i k j l m n. look_held_lem (whole o) k i j m n l }
 
 -- one pick more at the end
 picks_more : (d : Draft) (picks : List ℕ) (pick : ℕ) → with_picks d (picks ++ pick ∷ []) ≡ with_pick (with_picks d picks) pick

@@ -90,9 +90,9 @@ abbrev pub next_says : NextAnswer → Said
 next_says (Shorter centre length period) = gave (centre.0 ∷ length ∷ period ∷ [])
 next_says (NextRefused number) = refused number
 
--- the turn count, then the tests
+-- the turn count
 abbrev pub split_says : SplitAnswer → Said
-split_says (Split turns tests) = gave (turns ∷ tests ∷ [])
+split_says (Split turns) = gave (turns ∷ [])
 split_says (SplitRefused number) = refused number
 
 -- the record's count of bytes

@@ -1,7 +1,7 @@
 -- Demands 1 to 3 and the transcript, as statements. Their proofs are in proofs/.
-use Rattle.std.specs.Prelude.{◌≡◌, true, ◌↔◌, ◌≢◌, ℕ, ◌+◌, ◌-◌, ◌*◌, ◌^◌, ◌≤◌, ◌<◌, length, take, drop, get_or}
+use Rattle.std.specs.Prelude.{◌≡◌, true, ◌↔◌, ◌≢◌, ℕ, ◌+◌, ◌-◌, ◌*◌, ◌^◌, ◌≤◌, length, take, drop, get_or}
 use mathlib.Core.List.{List, [], ◌∷◌, ◌++◌, map, Memᴰ}
-use Rattle.words.specs.Definitions.{most_sections, From, word, centre, length_at, LongestEnding, next_leading, Follows, Visits, Section, Split, Named, turn_count, test_count, Rising, RowWord, GatheredWord}
+use Rattle.words.specs.Definitions.{most_sections, From, word, centre, length_at, LongestEnding, next_leading, Follows, Visits, Split, Named, turn_count, Rising, RowWord, GatheredWord}
 use Rattle.layout.specs.Record.{record_of}
 use Rattle.models.specs.Stores.{at}
 use Rattle.promises.specs.declared.Draft.{Draft}
@@ -15,7 +15,7 @@ use Rattle.promises.specs.Book.{Book, Call, start, feed, load, mark, back, ask, 
 use Rattle.promises.specs.Listed.{Line, First, NoneMet, listed, sought, lines, show_lines}
 use Rattle.promises.specs.Says.{Yes, Says, PartOf}
 use Rattle.promises.specs.State.{state_of_book}
-use Rattle.promises.specs.Promises.{look_held, split_held, Reads, ShowPromise, ShowPlace, ShowNumberPromise}
+use Rattle.promises.specs.Promises.{Reads, ShowPromise, ShowPlace, ShowNumberPromise}
 use Rattle.promises.specs.Replies.{replies}
 use Rattle.promises.specs.Runs.{Made, started, fed, loaded, marked, returned, call_of, calls, reply_of, Meets, leaves, Run, last}
 
@@ -107,22 +107,12 @@ pub record NextRight (n c : ℕ) (said : Said) : Type 0 where
   pub less : len - p ≡ length_at n to
   pub within : From (c + 1) (2 * n + 1) to
 
--- the tests of a split of prefix i into k with these ends: "the sum, over its sections, of the start place (the picks before it) plus one",
--- which "never exceed k × i"
-pub record TestsRight (i k : ℕ) (ends : List ℕ) (tests : ℕ) : Type 0 where
-  pub sum : tests ≡ test_count ends
-  pub few : tests ≤ k * i
-
--- a split of prefix i into k, whatever is stored: k ends that rise from above 0 to i, their turn count, and the tests, which are the looks
--- that the search made
-pub record EndsRight (d : Draft) (i k : ℕ) (before : List ℕ) (r : Reply) : Type 0 where
+-- a split of prefix i into k, whatever is stored: k ends that rise from above 0 to i, and their turn count
+pub record EndsRight (i k : ℕ) (before : List ℕ) (r : Reply) : Type 0 where
   pub ends : List ℕ
   pub count : length ends ≡ k
   pub rising : Rising i 0 ends
-  pub tests : ℕ
-  pub is : r ≡ reply (gave (turn_count ends ∷ tests ∷ [])) (filled ends before)
-  pub looks : tests ≡ (split_held d k i).tests
-  pub right : TestsRight i k ends tests
+  pub is : r ≡ reply (gave (turn_count ends ∷ [])) (filled ends before)
 
 -- a record of prefix i in k sections, whatever is stored: that of the stored letters, w, in k sections whose ends rise from above 0 to i
 pub record RecordRight (w : ℕ → ℕ) (i k : ℕ) (before : List ℕ) (r : Reply) : Type 0 where
@@ -171,24 +161,15 @@ pub record Demand2 (d : Draft) (ms : List Made) : Type 0 where
 
 -- Demand 3: u are the lifts of the picks
 
--- a shown split of the first i picks into k
-pub record Shown (u : List ℕ) (i k : ℕ) (before : List ℕ) (said : Said) (after : List ℕ) : Type 0 where
-  pub ends : List ℕ
-  -- every other split, read from its last section back, first differs by a shorter section
-  pub named : Named (word u) i k ends
-  pub tests : ℕ
-  -- the turn count is "the number of its sections with two or more picks"
-  pub says : said ≡ gave (turn_count ends ∷ tests ∷ [])
-  pub right : TestsRight i k ends tests
-  pub list : after ≡ ends ++ drop k before
-
 -- a split of the first i picks into k, on an ends list of k entries or more
 pub record SplitRight (u : List ℕ) (i k : ℕ) (before : List ℕ) (said : Said) (after : List ℕ) : Type 0 where
   -- "refused for want of one exactly when none exists"
   pub wants : (said ≡ refused 9) ↔ ((ends : List ℕ) → Split (word u) i k ends → ⊥)
   pub keeps : said ≡ refused 9 → after ≡ before
-  -- "and otherwise gives the ends of the one document 01 names"
-  pub gives : (said ≡ refused 9 → ⊥) → Shown u i k before said after
+  -- "and otherwise gives the ends of the one document 01 names": `Named` says that every other split, read from its last section back,
+  -- first differs by a shorter section. The turn count is "the number of its sections with two or more picks"
+  pub gives : (said ≡ refused 9 → ⊥)
+      → (ends : List ℕ) × Named (word u) i k ends × (said ≡ gave (turn_count ends ∷ [])) × (after ≡ ends ++ drop k before)
 
 -- "The longest ending's centre has moved exactly 2n - L half picks, L its length": moved is the number given, minus 1
 pub record MovedRight (u : List ℕ) (said : Said) : Type 0 where
@@ -248,13 +229,6 @@ pub record WordsRight (d : Draft) (ms : List Made) : Type 0 where
   pub gathered : (i : ℕ) → i ≤ length (row_of ms)
       → GatheredWord (sections_of ms) (word (lifted_of ms)) (length (row_of ms)) i (at (last d ms).gathered i)
 
--- "A test is one look at whether a chosen start gives a last section with a splittable rest": j is the start, i the prefix, and the rest
--- splits into k
-pub record LooksRight (d : Draft) (ms : List Made) : Type 0 where
-  pub tells : (i k j : ℕ) → i ≤ length (row_of ms) → k ≤ sections_of ms → j < i
-      → (look_held (last d ms) k i j ≡ true)
-      ↔ (Section (word (lifted_of ms)) j i × ((ends : List ℕ) × Split (word (lifted_of ms)) j k ends))
-
 -- Of every call on any state; and of every run that opens with an accepted start, each one claim about the whole list
 
 abbrev pub Demand1Holds : Type 0
@@ -264,7 +238,7 @@ abbrev pub NextHolds : Type 0
 NextHolds = (d : Draft) (c : ℕ) (r : Reply) → Reads d (next c) r → Accepted r.said → NextRight d.n c r.said
 
 abbrev pub SplitHolds : Type 0
-SplitHolds = (d : Draft) (i k : ℕ) (before : List ℕ) (r : Reply) → Reads d (split i k before) r → Accepted r.said → EndsRight d i k before r
+SplitHolds = (d : Draft) (i k : ℕ) (before : List ℕ) (r : Reply) → Reads d (split i k before) r → Accepted r.said → EndsRight i k before r
 
 abbrev pub RecordHolds : Type 0
 RecordHolds = (d : Draft) (i k : ℕ) (before : List ℕ) (r : Reply) → Reads d (fold i k before) r → Accepted r.said
@@ -290,9 +264,6 @@ Demand3Holds = OfEveryRun Demand3
 
 abbrev pub WordsHold : Type 0
 WordsHold = OfEveryRun WordsRight
-
-abbrev pub LooksHold : Type 0
-LooksHold = OfEveryRun LooksRight
 
 -- the state is a function of the book: the empty draft under the book's lifts and with its marks, the row's letters fed one after another.
 -- Whatever was stored before, refused, asked or abandoned between, or lent as a visit list counts for nothing

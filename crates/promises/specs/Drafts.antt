@@ -1,9 +1,9 @@
 -- The drafts marked P in document 01, with document 02's turn counts: one table, each row a draft, a question and the documents' answer.
 -- All have K = 8 and the fixed lifts.
-use Rattle.std.specs.Prelude.{◌≡◌, List, [], ◌∷◌, ◌++◌, map, ℕ, suc, ◌-◌, ◌≤◌, length, take, drop, get_or}
+use Rattle.std.specs.Prelude.{◌≡◌, List, [], ◌∷◌, map, ℕ, suc, ◌-◌, ◌≤◌, length, take, drop, get_or}
 use Rattle.std.proofs.Math.Option.{Option, some, none}
 use Prim.Native.String.{String}
-use Rattle.words.specs.Definitions.{most_sections, most_visits, test_count}
+use Rattle.words.specs.Definitions.{most_sections, most_visits}
 use Rattle.text.specs.Definitions.{bytes}
 use Rattle.promises.specs.Answers.{gave, refused, Reply, reply, filled}
 use Rattle.promises.specs.Lifts.{fixed_lifts}
@@ -90,15 +90,14 @@ entries moved = 0
 entries (split_in k) = k
 entries (radius_at c) = 0
 
--- the reply that has the answer: moved is the centre given, minus 1; no split is number 9, and the list as it was; the tests of a split are
--- those of its ends
+-- the reply that has the answer: moved is the centre given, minus 1; no split is number 9, and the list as it was
 abbrev pub reply_with : List ℕ → Question → Option (List ℕ) → (list : List ℕ) → Reply
 reply_with u q none list = reply (refused 9) list
 reply_with u mask (some values) list = reply (gave values) []
 reply_with u visits (some lengths) list =
     reply (gave (fed_mask (book_for u visits) (last_pick u) ∷ length lengths ∷ [])) (filled lengths list)
 reply_with u moved (some values) list = reply (gave (map suc values)) []
-reply_with u (split_in k) (some values) list = reply (gave (take 1 values ++ test_count (drop 1 values) ∷ [])) (filled (drop 1 values) list)
+reply_with u (split_in k) (some values) list = reply (gave (take 1 values)) (filled (drop 1 values) list)
 reply_with u (radius_at c) (some values) list = reply (gave values) []
 
 -- for any list of so many entries
@@ -122,8 +121,3 @@ pub data Feeds : (picks : List ℕ) → List Call → Type 0 where
 abbrev pub Kept : Row → Type 0
 Kept r = (cs : List Call) → Feeds (row_for r.letters r.question) cs
     → book_of (calls.start most_sections ∷ cs) ≡ book_for r.letters r.question
-
--- Beside the table: "ABACDDC in 2 takes 5." Its turn count is 2, and its ends are 3 and 7
-abbrev pub TestsOfSeven : Type 0
-TestsOfSeven = (list : List ℕ) → length list ≡ 2
-    → reply_to (book_for (bytes "ABACDDC") (split_in 2)) (call_for (bytes "ABACDDC") (split_in 2) list) ≡ reply (gave (2 ∷ 5 ∷ [])) (filled (3 ∷ 7 ∷ []) list)

@@ -1,7 +1,8 @@
 -- How the calls on lent parts meet their promises: refused under their number, or accepted with what was read.
-use Rattle.std.specs.Prelude.{◌≡◌, refl, Bool, true, false, ◌&&◌, List, [], ◌∷◌, ◌++◌, ℕ, ◌+◌, ◌-◌, ◌≤◌, ◌<◌, leb, eqb, length, take}
+use Rattle.std.specs.Prelude.{◌≡◌, refl, Bool, true, false, ◌&&◌, List, [], ◌∷◌, ◌++◌, ℕ, ◌≤◌, ◌<◌, leb, eqb, length, take}
 use Rattle.std.proofs.Math.Path.{sym, ap, ap₂}
-use Rattle.std.proofs.Common.{subst, ◌∙◌, append-nil, arith, drop_of_length-le, take_at, ne_eqb}
+use Rattle.std.proofs.Common.{subst, ◌∙◌, true≢false, append-nil, arith, drop_of_length-le, take_at, ne_eqb}
+use Rattle.std.proofs.lemmas.Bool.{false≢true}
 use Rattle.std.proofs.Math.Option.{Option, some, none}
 use Rattle.std.proofs.lemmas.List.Edits.{sets}
 use Rattle.cells.specs.declared.Numbers.{Numbers}
@@ -10,7 +11,7 @@ use Rattle.words.specs.Ranges.{between}
 use Rattle.models.specs.Stores.{at, sets_front}
 use Rattle.models.specs.Iterator.{longest_of}
 use Rattle.models.specs.Splitting.{split_by}
-use Rattle.models.specs.SplitCode.{told, stored, Stores, split_ends}
+use Rattle.models.specs.SplitCode.{Stores, split_ends}
 use Rattle.promises.specs.declared.Draft.{Draft}
 use Rattle.promises.specs.declared.LoadAnswer.{LoadAnswer}
 use Rattle.promises.specs.declared.LoadAnswer.TheVariants.{InForce, Refused as LoadRefused, RefusedAt as LoadRefusedAt}
@@ -19,9 +20,9 @@ use Rattle.promises.specs.Refusals.{test, line7, line14, line15, line16, load_re
 use Rattle.layout.specs.Record.{record_of}
 use Rattle.promises.specs.Lifts.{table_size, none_zero, first_zero}
 use Rattle.promises.specs.Book.{load, Query, ask, split, fold, lent}
-use Rattle.promises.specs.Replies.{unless, or_no_split, or_too_long, split_with, record_reply, refusal_of, refusal_to}
+use Rattle.promises.specs.Replies.{unless, or_no_split, or_too_long, split_reply, record_reply, refusal_of, refusal_to}
 use Rattle.promises.specs.State.{numbers_of, with_lifts}
-use Rattle.promises.specs.Promises.{split_held, search_reply, found_in, computed_to, LoadPromise}
+use Rattle.promises.specs.Promises.{split_held, found_in, computed_to, LoadPromise}
 use Rattle.promises.specs.Lent.{loaded_as, LoadsOn, ReadsOn}
 use Rattle.promises.specs.LiftLaws.{zero_within, zero_behind}
 use Rattle.promises.specs.RefusalLaws.{or_else, or_first, table_fits, load_order}
@@ -60,75 +61,69 @@ module _ (held : Numbers) (d : Draft) (h : numbers_of d ≡ held) where
   search_in rows R k i p q = rw (← h, ← p, ← q)
 
   pub split_in_lem : (rows R : List ℕ) (i k : ℕ) (list : List ℕ) (r : Reply) → d.rows ≡ rows → d.radius ≡ R
-      → r ≡ search_reply (split_by rows R held.n (longest_of held.n held.longest.0) k i) list
+      → r ≡ split_reply (split_by rows R held.n (longest_of held.n held.longest.0) k i) list
       → r ≡ found_in d (split i k list)
   unfolding found_in
-  split_in_lem rows R i k list r p q e = e ∙ ap (λ z. search_reply z list) (search_in rows R k i p q)
+  split_in_lem rows R i k list r p q e = e ∙ ap (λ o. split_reply o list) (search_in rows R k i p q)
 
   pub record_in : (letters rows R : List ℕ) (i k : ℕ) (output : List ℕ) (r : Reply) → d.letters ≡ letters → d.rows ≡ rows → d.radius ≡ R
-      → r ≡ record_reply (word letters) i (split_by rows R held.n (longest_of held.n held.longest.0) k i).found output
+      → r ≡ record_reply (word letters) i (split_by rows R held.n (longest_of held.n held.longest.0) k i) output
       → r ≡ found_in d (fold i k output)
   unfolding found_in
   record_in letters rows R i k output r p q t e =
-      e ∙ ap (λ l. record_reply (word l) i (split_by rows R held.n (longest_of held.n held.longest.0) k i).found output) (sym p)
-      ∙ ap (λ z. record_reply (word d.letters) i z.found output) (search_in rows R k i q t)
+      e ∙ ap (λ l. record_reply (word l) i (split_by rows R held.n (longest_of held.n held.longest.0) k i) output) (sym p)
+      ∙ ap (λ o. record_reply (word d.letters) i o output) (search_in rows R k i q t)
 
 -- What the search told and stored
 
-module _ (rows R : List ℕ) (n s k i : ℕ) (before : List ℕ) (r : ℕ) (after : List ℕ) (h : Stores (split_by rows R n s k i) before r after) where
+module _ (rows R : List ℕ) (n s k i : ℕ) (before : List ℕ) (b : Bool) (after : List ℕ) (h : Stores (split_by rows R n s k i) before b after) where
   -- no split
-  none_found : r ≤ 0 → ((split_by rows R n s k i).found ≡ none) × (after ≡ before)
-  none_found l = go (split_by rows R n s k i).found h.tells h.list
+  none_found : b ≡ false → (split_by rows R n s k i ≡ none) × (after ≡ before)
+  none_found t = go (split_by rows R n s k i) (rw t at h)
     where
-      go : (o : Option (List ℕ)) → r ≡ told (split_by rows R n s k i).tests o → after ≡ stored before o → (o ≡ none) × (after ≡ before)
-      go none t e = (refl, e)
-      go (some ends) t e = absurd (omega arith)
+      go : (o : Option (List ℕ)) → Stores o before false after → (o ≡ none) × (after ≡ before)
+      go none g = (refl, g.list)
+      go (some ends) g = absurd (false≢true g.tells)
 
   -- a split, its ends in front of the list
   record Ends : Type 0 where
     ends : List ℕ
-    is : (split_by rows R n s k i).found ≡ some ends
-    looks : r ≡ (split_by rows R n s k i).tests + 1
+    is : split_by rows R n s k i ≡ some ends
     list : after ≡ filled ends before
     front : take k after ≡ ends
 
-  ends_found : 0 < r → k ≤ length before → Ends
-  ends_found l room = go (split_by rows R n s k i).found refl h.tells h.list
+  ends_found : b ≡ true → k ≤ length before → Ends
+  ends_found t room = go (split_by rows R n s k i) refl (rw t at h)
     where
-      go : (o : Option (List ℕ)) → (split_by rows R n s k i).found ≡ o → r ≡ told (split_by rows R n s k i).tests o → after ≡ stored before o → Ends
-      go none e t q = absurd (omega arith)
-      go (some ends) e t q =
+      go : (o : Option (List ℕ)) → split_by rows R n s k i ≡ o → Stores o before true after → Ends
+      go none e g = absurd (true≢false g.tells)
+      go (some ends) e g =
           let c : length ends ≡ k = (split_ends rows R n s k i ends e).0 in
-          let f : after ≡ filled ends before = q ∙ sets_front ends before (omega (arith, c)) in
-          record { ends = ends; is = e; looks = t; list = f; front = ap (take k) f ∙ take_at ends _ k c }
+          let l : after ≡ filled ends before = g.list ∙ sets_front ends before (omega (arith, c)) in
+          record { ends = ends; is = e; list = l; front = ap (take k) l ∙ take_at ends _ k c }
 
-  pub split_lacking : r ≤ 0 → reply (refused 9) after ≡ search_reply (split_by rows R n s k i) before
+  pub split_lacking : b ≡ false → reply (refused 9) after ≡ split_reply (split_by rows R n s k i) before
   unfolding or_no_split
-  split_lacking l =
-      let f = none_found l in
-      ap (reply (refused 9)) f.1 ∙ sym (ap (λ o. split_with (λ ends. (split_by rows R n s k i).tests) o before) f.0)
+  split_lacking t = let f = none_found t in ap (reply (refused 9)) f.1 ∙ sym (ap (λ o. split_reply o before) f.0)
 
-  pub record_lacking : (w : ℕ → ℕ) (output : List ℕ) → r ≤ 0 → reply (refused 9) output ≡ record_reply w i (split_by rows R n s k i).found output
+  pub record_lacking : (w : ℕ → ℕ) (output : List ℕ) → b ≡ false → reply (refused 9) output ≡ record_reply w i (split_by rows R n s k i) output
   unfolding or_no_split
-  record_lacking w output l = sym (ap (λ o. record_reply w i o output) (none_found l).0)
+  record_lacking w output t = sym (ap (λ o. record_reply w i o output) (none_found t).0)
 
   -- part is what was stored of the ends: the first k entries of a list of k or more
-  module _ (part : List ℕ) (p : part ≡ take k after) (l : 0 < r) (room : k ≤ length before) where
-    pub split_given : (turns : ℕ) → turns ≡ turn_count part → reply (gave (turns ∷ (r - 1) ∷ [])) after ≡ search_reply (split_by rows R n s k i) before
+  module _ (part : List ℕ) (p : part ≡ take k after) (t : b ≡ true) (room : k ≤ length before) where
+    pub split_given : (turns : ℕ) → turns ≡ turn_count part → reply (gave (turns ∷ [])) after ≡ split_reply (split_by rows R n s k i) before
     unfolding or_no_split
     split_given turns q =
-        let f = ends_found l room in
-        let t : r - 1 ≡ (split_by rows R n s k i).tests = omega (arith, f.looks) in
-        ap₂ (λ x list. reply (gave (x ∷ (r - 1) ∷ [])) list) (q ∙ ap turn_count (p ∙ f.front)) f.list
-        ∙ ap (λ x. reply (gave (turn_count f.ends ∷ x ∷ [])) (filled f.ends before)) t
-        ∙ sym (ap (λ o. split_with (λ ends. (split_by rows R n s k i).tests) o before) f.is)
+        let f = ends_found t room in
+        ap₂ (λ x list. reply (gave (x ∷ [])) list) (q ∙ ap turn_count (p ∙ f.front)) f.list ∙ sym (ap (λ o. split_reply o before) f.is)
 
-    pub record_given : (w : ℕ → ℕ) (output : List ℕ) (x : Reply) → x ≡ or_too_long (record_of w i part) output
-        → x ≡ record_reply w i (split_by rows R n s k i).found output
+    pub record_given : (w : ℕ → ℕ) (output : List ℕ) (r : Reply) → r ≡ or_too_long (record_of w i part) output
+        → r ≡ record_reply w i (split_by rows R n s k i) output
     unfolding or_no_split
-    record_given w output x q =
-        let f = ends_found l room in
-        q ∙ ap (λ y. or_too_long (record_of w i y) output) (p ∙ f.front) ∙ sym (ap (λ o. record_reply w i o output) f.is)
+    record_given w output r q =
+        let f = ends_found t room in
+        q ∙ ap (λ x. or_too_long (record_of w i x) output) (p ∙ f.front) ∙ sym (ap (λ o. record_reply w i o output) f.is)
 
 -- Load: 7 and 14, then the place of the first lift of 0, then 16
 

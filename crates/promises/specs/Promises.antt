@@ -1,7 +1,7 @@
 -- The promise of each public call, as its contract cites it. `meaning`: on a state that holds what stands in the book, the reply
 -- is the one that the book gives. `computes`: on any state whatever, the refusals in their order, and else what is read from the
 -- stored arrays.
-use Rattle.std.specs.Prelude.{◌≡◌, Bool, ◌≢◌, List, [], ◌∷◌, ℕ, ◌+◌, ◌/◌, ◌%◌, ◌≤◌, length, drop}
+use Rattle.std.specs.Prelude.{◌≡◌, ◌≢◌, List, [], ◌∷◌, ℕ, ◌+◌, ◌/◌, ◌%◌, ◌≤◌, length, drop}
 use Rattle.std.proofs.Math.Option.{Option}
 use Rattle.words.specs.Definitions.{most_visits, word}
 use Rattle.words.specs.Computed.{NextShorter}
@@ -9,7 +9,7 @@ use Rattle.models.specs.Core.{After, append}
 use Rattle.models.specs.Stores.{at}
 use Rattle.models.specs.Iterator.{longest_of, radius_of}
 use Rattle.models.specs.Answers.{next_of}
-use Rattle.models.specs.Splitting.{Searched, starts_at, split_by}
+use Rattle.models.specs.Splitting.{split_by}
 use Rattle.promises.specs.declared.Draft.{Draft}
 use Rattle.promises.specs.declared.Started.{Started}
 use Rattle.promises.specs.declared.Fed.{Fed}
@@ -24,7 +24,7 @@ use Rattle.promises.specs.Book.{Book, write, Call, Query, start, feed, load, mar
 use Rattle.layout.specs.declared.Found.{Found}
 use Rattle.layout.specs.Record.{record_of}
 use Rattle.layout.specs.Yield.{yield_at}
-use Rattle.promises.specs.Replies.{unless_said, unless, or_no_split, or_no_ending, or_too_long, or_no_mark, or_fifth_name, gives, split_with, record_reply, refusal_of, refusal_to, reply_to, shown, shown_behind, unfold_reply}
+use Rattle.promises.specs.Replies.{unless_said, unless, or_no_split, or_no_ending, or_too_long, or_no_mark, or_fifth_name, gives, split_reply, record_reply, refusal_of, refusal_to, reply_to, shown, shown_behind, unfold_reply}
 use Rattle.promises.specs.State.{fresh, arrays_of, with_lifts, code_in, with_pick, marks_of, with_mark, cut_to}
 use Rattle.promises.specs.Holds.{Holds}
 
@@ -94,27 +94,19 @@ BackPromise d name r = Marking d (back name) (or_no_mark (marks_of d) name) (cut
 abbrev pub next_held : Draft → (c : ℕ) → Option NextShorter
 next_held d c = next_of d.radius d.next d.n (longest_of d.n d.longest.0) c
 
--- one look: does the last of k + 1 sections of prefix i start at place j, by the stored row words and radii?
-abbrev pub look_held : Draft → (k i j : ℕ) → Bool
-look_held d k i j = starts_at d.rows d.radius d.n (longest_of d.n d.longest.0) k i j
-
--- the search for the split by such looks, which it counts
-abbrev pub split_held : Draft → (k i : ℕ) → Searched (Option (List ℕ))
+-- the split by the stored row words and radii
+abbrev pub split_held : Draft → (k i : ℕ) → Option (List ℕ)
 split_held d k i = split_by d.rows d.radius d.n (longest_of d.n d.longest.0) k i
-
--- the split that a search found, with the looks that it counted
-abbrev pub search_reply : Searched (Option (List ℕ)) → (list : List ℕ) → Reply
-search_reply z list = split_with (λ ends. z.tests) z.found list
 
 -- what is found in the stored arrays, in reply to a query that passes the tests
 unfoldable pub found_in : Draft → Query → Reply
 unfolding or_no_split or_too_long record_of
-found_in d (split i k list) = search_reply (split_held d k i) list
+found_in d (split i k list) = split_reply (split_held d k i) list
 found_in d longest = gives (longest_of d.n d.longest.0 ∷ [])
 found_in d (mask i) = gives (mask_byte (at d.rows i) ∷ [])
 found_in d (radius c) = gives (radius_of d.radius d.n (longest_of d.n d.longest.0) c ∷ [])
 found_in d (next c) = reply (or_no_ending (next_held d c)) []
-found_in d (fold i k output) = record_reply (word d.letters) i (split_held d k i).found output
+found_in d (fold i k output) = record_reply (word d.letters) i (split_held d k i) output
 found_in d (lift letter) = gives (lift_in d.lifts letter ∷ [])
 
 unfoldable pub computed_to : Draft → Query → Reply

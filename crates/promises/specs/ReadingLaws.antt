@@ -1,33 +1,32 @@
 -- What is found in a state that holds what stands in the book is what the book has: so the calls that only read meet their promise.
-use Rattle.std.specs.Prelude.{◌≡◌, refl, true, ◌↔◌, List, [], ◌∷◌, ℕ, zero, suc, ◌+◌, ◌-◌, ◌*◌, ◌/◌, ◌≤◌, ◌<◌}
+use Rattle.std.specs.Prelude.{◌≡◌, refl, List, [], ◌∷◌, ℕ, zero, suc, ◌+◌, ◌-◌, ◌*◌, ◌/◌, ◌≤◌}
 use Rattle.std.proofs.Math.Path.{ap, ap₂}
 use Rattle.std.proofs.Common.{◌∙◌, arith}
-use Rattle.std.proofs.Math.Option.{Option, some, none}
+use Rattle.std.proofs.Math.Option.{Option, some}
 use Rattle.std.proofs.Math.ListN.{length}
-use Rattle.words.specs.Definitions.{word, stretch, Section, Sections, Split, done, next}
+use Rattle.words.specs.Definitions.{word, stretch, Sections, done, next}
 use Rattle.words.specs.Computed.{row_word, longest_centre, split_of}
 use Rattle.words.specs.Computed.{mask as mask_of}
 use Rattle.words.specs.Laws.{row_lt}
-use Rattle.words.specs.Splits.{Splitting, given, lacking, split_law, sections_rise, rising_to}
+use Rattle.words.specs.Splits.{Splitting, given, lacking, split_law}
 use Rattle.words.specs.Prefixes.{Agree}
 use Rattle.models.specs.Stores.{at}
 use Rattle.models.specs.Scanning.{Radii}
 use Rattle.models.specs.Iterator.{longest_of}
 use Rattle.models.specs.Iterating.{in_range, longest_right, radius_right}
 use Rattle.models.specs.Answers.{endings, next_right}
-use Rattle.models.specs.Splitting.{look_right, split_right as split-by-right}
-use Rattle.models.specs.SplitCode.{tests_sum}
+use Rattle.models.specs.Splitting.{split_right as split-by-right}
 use Rattle.promises.specs.declared.Draft.{Draft}
 use Rattle.promises.specs.Answers.{Reply, reply}
 use Rattle.layout.specs.Record.{laid_out, folded_of, record_of}
 use Rattle.promises.specs.Lifts.{lift_in}
 use Rattle.promises.specs.Book.{Book, Query, ask, split, longest, mask, radius, fold, lift, lent, lifted}
 use Rattle.promises.specs.Book.{next as nextAsked}
-use Rattle.promises.specs.Replies.{unless, or_no_split, or_no_ending, or_too_long, gives, split_with, split_reply, record_reply, refusal_of, found_for, reply_to}
+use Rattle.promises.specs.Replies.{unless, or_no_split, or_no_ending, or_too_long, gives, split_reply, record_reply, refusal_of, found_for, reply_to}
 use Rattle.promises.specs.RefusalLaws.{mask_fits, centre_fits, record_fits, split_fits}
 use Rattle.promises.specs.BookLaws.{unless_as}
 use Rattle.promises.specs.Holds.{Holds}
-use Rattle.promises.specs.Promises.{mask_byte, look_held, split_held, found_in, computed_to, Reads}
+use Rattle.promises.specs.Promises.{mask_byte, split_held, found_in, computed_to, Reads}
 use Rattle.promises.specs.LiftLaws.{lifted_length}
 use Rattle.promises.specs.WritingLaws.{byte_mask, held_picks}
 
@@ -51,27 +50,11 @@ module _ {d : Draft} {b : Book} (h : Holds d b) where
 
 -- Split
 
--- a look tells whether a start gives a last section with a splittable rest
-pub look_held_lem : {d : Draft} {b : Book} (h : Holds d b) (k i j : ℕ) → k ≤ b.K → j < i → i ≤ length b.row
-    → (look_held d k i j ≡ true) ↔ (Section (word (lifted b)) j i × ((ends : List ℕ) × Split (word (lifted b)) j k ends))
-look_held_lem {d} {b} h k i j l m n =
-    rw (held_picks h, stored_centre h)
-    (look_right b.K (word (lifted b)) (length (lifted b)) d.longest.0 d.rows d.radius (radii h) (row_held h) k i j l m (within_lifted h i n))
-
-split_held_lem : {d : Draft} {b : Book} (h : Holds d b) (k i : ℕ) → k ≤ b.K → i ≤ length b.row → (split_held d k i).found ≡ split_of (word (lifted b)) i k
+split_held_lem : {d : Draft} {b : Book} (h : Holds d b) (k i : ℕ) → k ≤ b.K → i ≤ length b.row → split_held d k i ≡ split_of (word (lifted b)) i k
 split_held_lem {d} {b} h k i l m =
     rw (held_picks h, stored_centre h)
     (split-by-right b.K (word (lifted b)) (length (lifted b)) d.longest.0 d.rows d.radius (radii h) (row_held h) k i l
     (within_lifted h i m))
-
--- the looks that the search counts are the tests of the split that it finds, whatever is stored
-pub looks_told : (d : Draft) (i k : ℕ) (list : List ℕ) → found_in d (split i k list) ≡ split_reply (split_held d k i).found list
-unfolding found_in or_no_split
-looks_told d i k list = go (split_held d k i).found refl
-  where
-    go : (o : Option (List ℕ)) → (split_held d k i).found ≡ o → split_with (λ ends. (split_held d k i).tests) o list ≡ split_reply o list
-    go none e = refl
-    go (some ends) e = rw (tests_sum d.rows d.radius d.n (longest_of d.n d.longest.0) k i ends e)
 
 -- Record: w and v are letters, x what is read of them
 
@@ -80,10 +63,14 @@ stretch_as a zero f = refl
 stretch_as {w} {v} a (suc len) f =
     ap₂ (λ x l. x ∷ l) (f a (omega arith)) (stretch_as {w = w} {v = v} (suc a) len (λ i l. f i (omega arith)))
 
+sections_to : {w : ℕ → ℕ} {n a : ℕ} {ends : List ℕ} → Sections w n a ends → a ≤ n
+sections_to done = omega arith
+sections_to (next f s) = omega (arith, f.some, sections_to s)
+
 folded_as : {w v x : ℕ → ℕ} {n a : ℕ} {ends : List ℕ} → Agree w v n → Sections x n a ends → folded_of w a ends ≡ folded_of v a ends
 folded_as f done = refl
 folded_as {w} {v} {x} {n} f (next {a = a} {e = e} s t) =
-    let half = stretch_as {w = w} {v = v} a ((e - a + 1) / 2) (λ i l. f i (omega (arith, s.some, rising_to (sections_rise t)))) in
+    let half = stretch_as {w = w} {v = v} a ((e - a + 1) / 2) (λ i l. f i (omega (arith, s.some, sections_to t))) in
     ap₂ (λ x l. record { len = e - a; half = x } ∷ l) half (folded_as f t)
 
 record_as : {w v x : ℕ → ℕ} {n : ℕ} {ends : List ℕ} → Agree w v n → Sections x n 0 ends → record_of w n ends ≡ record_of v n ends
@@ -110,7 +97,7 @@ module _ {d : Draft} {b : Book} (h : Holds d b) where
   unfolding refusal_of found_in found_for mask_of
   found_same (split i k list) z =
       let l = (split_fits (length b.row) b.K i k (length list) z).0 in
-      looks_told d i k list ∙ ap (λ o. split_reply o list) (split_held_lem h k i l.most l.prefix)
+      ap (λ o. split_reply o list) (split_held_lem h k i l.most l.prefix)
   found_same longest z = ap (λ c. gives (c ∷ [])) (longest_held h)
   found_same (mask i) z =
       let l = mask_fits (length b.row) b.K i z in

@@ -2,7 +2,7 @@
 -- plain book.
 use Rattle.std.specs.Prelude.{Bool, true, false, cond, List, [], ◌∷◌, ℕ, zero, suc, ◌-◌, eqb, leb, length, take, drop, get_or}
 use Rattle.std.proofs.Math.Option.{Option, some, none}
-use Rattle.words.specs.Definitions.{word, turn_count, test_count}
+use Rattle.words.specs.Definitions.{word, turn_count}
 use Rattle.words.specs.Computed.{longest_centre, NextShorter, next_after, radius_at, visits, split_of}
 use Rattle.words.specs.Computed.{mask as mask_of}
 use Rattle.layout.specs.Record.{record_of}
@@ -64,14 +64,9 @@ gives values = reply (gave values) []
 abbrev pub fed_reply : (bits : ℕ) (lengths list : List ℕ) → Reply
 fed_reply bits lengths list = reply (gave (bits ∷ length lengths ∷ [])) (filled lengths list)
 
--- "It fills the first k entries of a lent list"; "It also gives the turn count", which is document 02's; "The split reports its tests", and
--- "A refusal reports none": tests are those of a split with these ends
-abbrev pub split_with : (tests : List ℕ → ℕ) (found : Option (List ℕ)) (list : List ℕ) → Reply
-split_with tests found list = or_no_split found list (λ ends. reply (gave (turn_count ends ∷ tests ends ∷ [])) (filled ends list))
-
--- "For a shown split they equal the sum, over its sections, of the start place (the picks before it) plus one"
+-- "It fills the first k entries of a lent list"; "It also gives the turn count", which is document 02's
 abbrev pub split_reply : (found : Option (List ℕ)) (list : List ℕ) → Reply
-split_reply found list = split_with test_count found list
+split_reply found list = or_no_split found list (λ ends. reply (gave (turn_count ends ∷ [])) (filled ends list))
 
 -- the record has the letters w
 abbrev pub record_reply : (w : ℕ → ℕ) (i : ℕ) (found : Option (List ℕ)) (output : List ℕ) → Reply

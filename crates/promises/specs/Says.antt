@@ -1,6 +1,6 @@
 -- What document 01 says of the answer to each call that is accepted, in propositions of `words`. u is what is read of the picks: their lifts.
 use Rattle.std.specs.Prelude.{◌≡◌, ◌↔◌, List, [], ◌∷◌, ◌++◌, ℕ, ◌+◌, ◌-◌, ◌≤◌, ◌<◌, length, get_or}
-use Rattle.words.specs.Definitions.{word, prefix, centre, Joined, LeastPeriod, Ending, LongestEnding, NextEnding, LongestAt, Visits, Named, turn_count, test_count, bit}
+use Rattle.words.specs.Definitions.{word, prefix, centre, Joined, LeastPeriod, Ending, LongestEnding, NextEnding, LongestAt, Visits, Named, turn_count, bit}
 use Rattle.words.specs.Definitions.{radius as radius_of}
 use Rattle.promises.specs.Answers.{gave, Reply, reply, filled}
 use Rattle.layout.specs.Record.{record_of}
@@ -21,11 +21,11 @@ pub record FeedSays (K : ℕ) (u list : List ℕ) (r : Reply) : Type 0 where
   pub is : r ≡ reply (gave (m ∷ length lengths ∷ [])) (filled lengths list)
 
 -- "Of all splits it is the one whose last section is longest .. It also gives the turn count": "the number of its sections with two or
--- more picks"; "The split reports its tests": "the sum, over its sections, of the start place (the picks before it) plus one"
+-- more picks"
 pub record SplitSays (u : List ℕ) (i k : ℕ) (list : List ℕ) (r : Reply) : Type 0 where
   pub ends : List ℕ
   pub named : Named (word u) i k ends
-  pub is : r ≡ reply (gave (turn_count ends ∷ test_count ends ∷ [])) (filled ends list)
+  pub is : r ≡ reply (gave (turn_count ends ∷ [])) (filled ends list)
 
 -- "Centre of the longest ending."
 pub record LongestSays (u : List ℕ) (r : Reply) : Type 0 where

@@ -126,8 +126,8 @@ pub enum NextAnswer {
 
 #[derive(Drop)]
 pub enum SplitAnswer {
-    // The turn count, how many sections have two or more picks; and the tests, how many starts the search looked at.
-    Split(usize, usize),
+    // The turn count: how many sections have two or more picks.
+    Split(usize),
     Refused(u8),
 }
 

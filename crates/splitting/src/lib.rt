@@ -1,15 +1,13 @@
-// The search for the split named: from the last section back to the first, each section's start tried from place 0 upward,
-// and the looks counted; and the turn count of a split.
+// The search for the split named: from the last section back to the first, each section's start tried from place 0 upward;
+// and the turn count of a split.
 ghost use Rattle.std.specs.Prelude.{◌≡◌, [], ◌∷◌, ◌+◌, ◌<◌, ◌≤◌, eqb};
 ghost use Rattle.words.specs.Definitions.{most_picks, most_sections, turns_of, turn_count, bit};
 ghost use Rattle.models.specs.Iterator.{longest_of};
 ghost use Rattle.models.specs.Splitting.{starts_at, first_start, split_by};
 ghost use Rattle.models.specs.SplitCode.{Stores};
-ghost use Rattle.splitting.specs.Says.{Tells};
+ghost use Rattle.splitting.specs.Says.{first_says};
 
-use cells::{
-    ByCentre, ByPlace, Centre, Numbers, Place, at, minus, narrow, place_entry, store, wide,
-};
+use cells::{ByCentre, ByPlace, Centre, Numbers, Place, at, at_place, minus, narrow, store, wide};
 use iterator::reading::radius_at;
 
 // Whether the row word has bit k.
@@ -28,45 +26,42 @@ fn centre_between(j: Place, i: Place) -> Centre
     Centre(i.0 + j.0 + 1)
 }
 
-// One look: whether prefix j splits into k sections and picks j + 1 to i are one more. Constant work: a bit and a radius.
+// Whether prefix j splits into k sections and picks j + 1 to i are one more. Constant work: a bit and a radius.
 fn starts_at(rows: &ByPlace, radius: &ByCentre, held: Numbers, k: u8, i: Place, j: Place) -> bool
     requires { (held.n ≤ most_picks) × (k ≤ most_sections) × (i.0 ≤ most_picks) × (j.0 < i.0) }
     ensures { result ≡ starts_at rows.now radius.now held.n (longest_of held.n held.longest.0) k i.0 j.0 }
 {
-    if has_bit(place_entry(rows, j), k) {
+    if has_bit(at_place(rows, j), k) {
         let r = radius_at(radius, held.n, held.longest, centre_between(j, i));
         return (i.0 - j.0) / 2 <= r;
     }
     false
 }
 
-// Where a last section starts and how many looks found it, or that none does.
+// Where a last section starts, or that none does.
 #[derive(Drop)]
 pub enum First {
-    At(Place, usize),
+    At(Place),
     Missing,
 }
 
 // The first start of a last section of prefix i whose rest splits into k: tried from place 0 upward.
 fn first_start(rows: &ByPlace, radius: &ByCentre, held: Numbers, k: u8, i: Place) -> First
     requires { (held.n ≤ most_picks) × (k ≤ most_sections) × (i.0 ≤ most_picks) }
-    ensures { Tells (first_start rows.now radius.now held.n (longest_of held.n held.longest.0) k i.0 i.0 0) result }
+    ensures { first_says result ≡ first_start rows.now radius.now held.n (longest_of held.n held.longest.0) k i.0 i.0 0 }
 {
     let mut j = 0usize;
-    let mut tests = 0usize;
     let end = i.0;
     while j < end {
-        tests = tests + 1;
         if starts_at(rows, radius, held, k, i, Place(j)) {
-            return First::At(Place(j), tests);
+            return First::At(Place(j));
         }
         j = j + 1;
     }
     First::Missing
 }
 
-// The ends of the split named of prefix i into k go to the front of the list. Gives one more than the number of looks; where
-// there is no split 0, and nothing is stored.
+// The ends of the split named of prefix i into k go to the front of the list; where there is none, nothing is stored.
 pub fn split_from(
     rows: &ByPlace,
     radius: &ByCentre,
@@ -74,26 +69,22 @@ pub fn split_from(
     i: Place,
     k: u8,
     ends: &mut [u16],
-) -> usize
+) -> bool
     requires { (held.n ≤ most_picks) × (k ≤ most_sections) × (i.0 ≤ most_picks) }
     ensures { Stores (split_by rows.now radius.now held.n (longest_of held.n held.longest.0) k i.0) ends.old result ends.new }
 {
     if k == 0 {
-        if i.0 == 0 {
-            return 1;
-        }
-        return 0;
+        return i.0 == 0;
     }
-    let start = first_start(rows, radius, held, k - 1, i);
-    match start {
-        First::Missing => 0,
-        First::At(j, tests) => {
-            let rest = split_from(rows, radius, held, j, k - 1, ends);
-            if 0 < rest {
+    let found = first_start(rows, radius, held, k - 1, i);
+    match found {
+        First::Missing => false,
+        First::At(j) => {
+            if split_from(rows, radius, held, j, k - 1, ends) {
                 store(ends, (k - 1) as usize, narrow(i.0));
-                return tests + rest;
+                return true;
             }
-            0
+            false
         }
     }
 }

@@ -206,16 +206,6 @@ turns_of (len ∷ lengths) = cond (leb 2 len) 1 0 + turns_of lengths
 abbrev pub turn_count : (ends : List ℕ) → ℕ
 turn_count ends = turns_of (lengths_back 0 ends)
 
--- "the sum, over its sections, of the start place (the picks before it) plus one" (document 02, 2.8): by their ends, a being the start
--- place of the first
-abbrev pub tests_from : (a : ℕ) (ends : List ℕ) → ℕ
-tests_from a [] = 0
-tests_from a (e ∷ ends) = a + 1 + tests_from e ends
-
--- the tests of a split, by its ends
-abbrev pub test_count : (ends : List ℕ) → ℕ
-test_count ends = tests_from 0 ends
-
 -- ends "rising strictly from above 0 to exactly the number of lent letters": here from above a to n
 pub data Rising (n : ℕ) : ℕ → List ℕ → Type 0 where
   done : Rising n n []

@@ -1,13 +1,13 @@
--- Splits: the last section cut off, the law of the split named, splits as palindromes joined, rising ends and their tests.
+-- Splits: the last section cut off, the law of the split named, and splits as palindromes joined.
 use Rattle.std.specs.Prelude.{◌≡◌, ◌≢◌, length, take, drop}
 use Rattle.std.proofs.Math.Path.{refl}
 use Rattle.std.proofs.Common.{sym, ap, ◌∙◌, arith, length-append, take_at, drop_at}
 use mathlib.Core.List.{List, [], ◌∷◌, ◌++◌, List-discrete}
 use Rattle.std.proofs.Math.Option.{Option, some, none}
-use Prim.Native.Nat.{ℕ, zero, suc, ◌+◌, ◌-◌, ◌*◌, ◌≤◌, ◌<◌}
+use Prim.Native.Nat.{ℕ, zero, suc, ◌+◌, ◌-◌, ◌≤◌, ◌<◌}
 use Rattle.std.proofs.Math.Decide.{dec_le, dec_lt, ℕ_discrete}
 use Rattle.words.specs.Cases.{clash}
-use Rattle.words.specs.Definitions.{stretch, prefix, Section, Joined, nothing, another, Ending, Sections, done, next, Split, lengths_back, Smaller, here, further, Before, Named, tests_from, Rising}
+use Rattle.words.specs.Definitions.{stretch, prefix, Section, Joined, nothing, another, Ending, Sections, done, next, Split, lengths_back, Smaller, here, further, Before, Named}
 use Rattle.words.specs.Mirror.{stretch_length, stretch_join, ending?, section_ending, ending_section}
 use Rattle.words.specs.Computed.{cut_last, split_of, splits}
 
@@ -185,14 +185,6 @@ module _ (w : ℕ → ℕ) (n k : ℕ) where
       go (given s e m) = rw (e, splits)
       go (lacking e f) = absurd (f ends h)
 
-  pub splits_some : splits w n k ≡ 1 → (ends : List ℕ) × Split w n k ends
-  unfolding splits
-  splits_some e = go (split_law w k n)
-    where
-      go : Splitting w n k (split_of w n k) → (ends : List ℕ) × Split w n k ends
-      go (given s p m) = (s, m.is)
-      go (lacking p f) = let z : splits w n k ≡ 0 = rw (p, splits) in absurd (omega (arith, e, z))
-
   pub splits_zero : ((ends : List ℕ) → Split w n k ends → ⊥) → splits w n k ≡ 0
   unfolding splits
   splits_zero f = go (split_law w k n)
@@ -203,28 +195,3 @@ module _ (w : ℕ → ℕ) (n k : ℕ) where
 
   pub splits_small : splits w n k ≤ 1
   splits_small = elim (split_law w k n) [ given s e m ↦ omega (arith, splits_one m.is) | lacking e f ↦ omega (arith, splits_zero f) ]
-
--- Ends that rise, whether or not they are those of sections
-
-pub sections_rise : {w : ℕ → ℕ} {n a : ℕ} {ends : List ℕ} → Sections w n a ends → Rising n a ends
-sections_rise done = done
-sections_rise (next {a = a} {e = e} s t) = next {a = a} {e = e} (omega (arith, s.some)) (sections_rise t)
-
-pub rising_to : {n a : ℕ} {ends : List ℕ} → Rising n a ends → a ≤ n
-rising_to done = omega arith
-rising_to (next l h) = omega (arith, rising_to h)
-
--- one more at the end
-pub rising_after : {i j a : ℕ} {ends : List ℕ} → Rising j a ends → j < i → Rising i a (ends ++ i ∷ [])
-rising_after done l = next l done
-rising_after (next m h) l = next m (rising_after h l)
-
--- the section more starts at j
-pub tests_after : (i : ℕ) {j a : ℕ} {ends : List ℕ} → Rising j a ends → tests_from a (ends ++ i ∷ []) ≡ tests_from a ends + (j + 1)
-tests_after i done = omega arith
-tests_after i (next l h) = omega (arith, tests_after i h)
-
--- "and never exceed k × i"
-pub few_tests : {n a : ℕ} {ends : List ℕ} → Rising n a ends → tests_from a ends ≤ length ends * n
-few_tests done = omega arith
-few_tests {n} (next {ends = ends} l h) = omega (arith, few_tests h, rising_to h)

@@ -2,19 +2,18 @@
 
 use super::{refuse_if, write_front, Answer, State, ENDS_TOO_SHORT, NO_SPLIT, OUTPUT_TOO_SHORT};
 use crate::plain;
-pub use crate::plain::SplitCounts;
 
 /// "Split: a prefix i and a k. It fills the first k entries of a lent list of
 /// 16-bit numbers with the last pick numbers of the sections, rising." "It also
-/// gives the turn count." "The split reports its tests." "A refusal reports none."
-pub fn split(state: &State, i: usize, k: usize, ends_list: &mut [u16]) -> Answer<SplitCounts> {
+/// gives the turn count."
+pub fn split(state: &State, i: usize, k: usize, ends_list: &mut [u16]) -> Answer<usize> {
     state.check()?;
     state.check_sections(k)?;
     refuse_if(ends_list.len() < k, ENDS_TOO_SHORT)?;
     state.check_prefix(i)?;
     let ends = named_ends(state, i, k)?;
     write_front(ends_list, &ends);
-    Ok(SplitCounts::of(&ends))
+    Ok(plain::turn_count(&ends))
 }
 
 /// "Folded record of prefix i in k sections, by the split just named, into a lent

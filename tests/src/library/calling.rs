@@ -2,7 +2,7 @@
 
 use super::board::Board;
 use super::running::Lent;
-use crate::calls::{Answer, NextEnding, Placed, SplitCounts, Taken};
+use crate::calls::{Answer, NextEnding, Placed, Taken};
 use crate::plain::Lifts;
 use crate::scripted::{Call, Reply, VALUES};
 use crate::tables::Table;
@@ -101,12 +101,10 @@ impl Board {
     }
 
     /// Split.
-    pub fn split(&mut self, i: usize, k: usize, ends_list: &mut [u16]) -> Answer<SplitCounts> {
+    pub fn split(&mut self, i: usize, k: usize, ends_list: &mut [u16]) -> Answer<usize> {
         let (prefix, k, entries) = (short(i), byte(k), short(ends_list.len()));
         let call = Call::Split { prefix, k, entries };
-        let [turns, tests, none] = values(call, self.make(call, ends_list, &mut []))?;
-        assert_eq!(none, 0, "third value of {call:?}");
-        Ok(SplitCounts::new(turns, tests))
+        one_value(call, self.make(call, ends_list, &mut []))
     }
 
     /// Folded record.

@@ -50,40 +50,6 @@ pub fn turn_count(ends: &[usize]) -> usize {
     lengths.filter(|&picks| picks >= 2).count()
 }
 
-/// "The sum, over its sections, of the start place (the picks before it) plus one." A
-/// section's start place is the end of the one before it.
-pub fn test_count(ends: &[usize]) -> usize {
-    let lengths = section_lengths(ends).into_iter();
-    let start_places = ends.iter().zip(lengths).map(|(&end, length)| end - length);
-    start_places.map(|place| place + 1).sum()
-}
-
-/// What is counted of a split.
-#[derive(Clone, Copy, Debug, PartialEq, Eq)]
-pub struct SplitCounts {
-    /// "The turn count."
-    pub turns: usize,
-    /// "Its tests."
-    pub tests: usize,
-}
-
-impl SplitCounts {
-    /// So many turns and tests.
-    pub fn new(turns: usize, tests: usize) -> SplitCounts {
-        SplitCounts { turns, tests }
-    }
-
-    /// Those of the split with these ends.
-    pub fn of(ends: &[usize]) -> SplitCounts {
-        SplitCounts::new(turn_count(ends), test_count(ends))
-    }
-
-    /// The two numbers in the order in which the call gives them.
-    pub fn values(self) -> [usize; 2] {
-        [self.turns, self.tests]
-    }
-}
-
 /// "Of all splits it is the one whose last section is longest, then the one
 /// before that, working from the last section back to the first."
 pub fn named_split(prefix: &[u8], k: usize) -> Option<Vec<usize>> {

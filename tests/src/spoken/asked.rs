@@ -2,7 +2,7 @@
 
 use super::lent::Lent;
 use crate::calls::{self, Answer, State};
-use crate::plain::{are_ends, SplitCounts};
+use crate::plain::{are_ends, turn_count};
 use crate::scripted::Call;
 
 /// A call with its arguments, those beyond their fields included. Prefixes are in whole
@@ -71,8 +71,7 @@ impl Asked {
                 calls::next_ending(state, centre).map(|next| next.values().to_vec())
             }
             Asked::Split { prefix, k, .. } => {
-                let counts = calls::split(state, prefix, k, lent.entries_mut());
-                counts.map(|counts| counts.values().to_vec())
+                calls::split(state, prefix, k, lent.entries_mut()).map(one)
             }
             Asked::Record { prefix, k, .. } => {
                 calls::folded_record(state, prefix, k, lent.bytes_mut()).map(one)
@@ -84,7 +83,7 @@ impl Asked {
     pub fn values(self) -> usize {
         match self {
             Asked::Start { .. } => 0,
-            Asked::Feed { .. } | Asked::Split { .. } => 2,
+            Asked::Feed { .. } => 2,
             Asked::Next { .. } => 3,
             _ => 1,
         }
@@ -106,12 +105,12 @@ impl Asked {
     }
 
     /// Whether the accepted call with these values can leave what it was lent so, on any
-    /// stored state: a split fills in ends of its prefix, and gives what is counted of them.
+    /// stored state: a split fills in ends of its prefix, and gives their turn count.
     pub fn can_leave(self, values: &[usize], lent: &Lent) -> bool {
         match (self, lent) {
             (Asked::Split { prefix, k, .. }, Lent::List(entries)) => {
                 let ends: Vec<usize> = entries[..k].iter().map(|&end| end.into()).collect();
-                are_ends(&ends, prefix) && values == SplitCounts::of(&ends).values()
+                are_ends(&ends, prefix) && values == [turn_count(&ends)]
             }
             _ => true,
         }

@@ -76,7 +76,7 @@ fn another_ending() -> Vec<Step> {
         asked(Call::Radius { centre: 7 }, [0]),
         refusal(Call::Radius { centre: 8 }, 4),
         asked(Call::NextEnding { centre: 4 }, [6, 3, 2]),
-        (split, given([1, 1]), &[3]),
+        (split, given([1]), &[3]),
         refusal(record, 9),
         feed(b'B', 0b1010, &[3, 1]),
         feed(b'A', 0b1_0101, &[5, 3, 1]),

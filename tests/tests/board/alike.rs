@@ -7,7 +7,7 @@ use comparison::beside::{Beside, BYTE, ENTRY};
 use comparison::fast::Fast;
 use comparison::full_drafts::{self, Named};
 use comparison::library::{unfold, Board};
-use comparison::plain::{self, word, Lifts, SplitCounts};
+use comparison::plain::{self, word, Lifts};
 use comparison::samples::{every_draft, Generator};
 use comparison::scripted::Call;
 use comparison::tables::{
@@ -126,7 +126,7 @@ fn compare_long_splits(board: &mut Board, fast: &Fast, lifts: &Lifts, name: &str
                 assert_eq!(answer, Err(9), "{case}");
                 continue;
             };
-            assert_eq!(answer, Ok(SplitCounts::of(&ends)), "{case}");
+            assert_eq!(answer, Ok(plain::turn_count(&ends)), "{case}");
             assert!(list.into_iter().map(usize::from).eq(ends.clone()), "{case}");
             let letters = board.letters();
             let mut sections = (1..=k).map(|s| plain::section(letters, &ends, s));

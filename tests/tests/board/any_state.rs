@@ -103,7 +103,7 @@ fn every_ending_on_any_bytes() {
 }
 
 /// Splits a prefix into each k from 1 to K. Gives in how many splits every section turns,
-/// and in how many some have one pick: turn count and tests are those of the ends given.
+/// and in how many some have one pick: each turn count is that of the ends given.
 fn split_into_each(board: &mut Board, prefix: u16, step: Step) -> [usize; 2] {
     let entries = MOST_SECTIONS as u16;
     let sections = 1..=board.most_sections() as u8;
@@ -126,7 +126,7 @@ fn split_into_each(board: &mut Board, prefix: u16, step: Step) -> [usize; 2] {
 
 /// Many splits of both kinds must be among them, on any bytes and on spoiled drafts.
 #[test]
-fn split_counts_on_any_bytes() {
+fn turn_counts_on_any_bytes() {
     each_step_ends(|steps| {
         let mut counts = [[0, 0], [0, 0]];
         for seed in 42_000..42_800 {

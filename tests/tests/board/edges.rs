@@ -6,7 +6,7 @@ use comparison::beside::{Beside, BYTE, ENTRY};
 use comparison::library::Board;
 use comparison::scripted::{given, refused, Call};
 use comparison::support::ending_examples::ENDINGS;
-use comparison::support::split_counts::SPLIT_COUNTS;
+use comparison::support::turn_counts::TURN_COUNTS;
 use comparison::{MOST_PICKS, MOST_SECTIONS, VISIT_ROOM};
 
 /// The mask and the visits that the last feed of a draft gives, and its mask.
@@ -30,12 +30,12 @@ fn assert_mask(draft: &str, mask: usize) {
     assert_eq!(reply, given([mask]), "{draft}");
 }
 
-/// The ends of the whole draft in k, the turn count and the tests.
-fn assert_split(draft: &str, k: u8, ends: &[u16], counts: [usize; 2]) {
+/// The ends of the whole draft in k, and the turn count.
+fn assert_split(draft: &str, k: u8, ends: &[u16], turns: usize) {
     let mut run = Beside::fed(draft.as_bytes(), MOST_SECTIONS);
     let (prefix, entries) = (draft.len() as u16, u16::from(k));
     let (reply, list, _) = run.make_lent(Call::Split { prefix, k, entries });
-    assert_eq!(reply, given(counts), "{draft} in {k}");
+    assert_eq!(reply, given([turns]), "{draft} in {k}");
     assert_eq!(list, ends, "{draft} in {k}");
 }
 
@@ -65,7 +65,7 @@ fn runs_of_one_letter() {
     assert_mask_and_visits("A", 1, &[1]);
     assert_mask("AA", 3);
     assert_mask_and_visits("AAA", 7, &[3, 1]);
-    assert_split("AAA", 2, &[1, 3], [1, 3]);
+    assert_split("AAA", 2, &[1, 3], 1);
 }
 
 #[test]
@@ -76,11 +76,11 @@ fn alternating_letters() {
 }
 
 /// "ABACDDC has mask 122; in 2 its ends are 3, 7; it moved 10 half picks": the number
-/// given, minus the 1 given on the empty draft. "ABACDDC in 2 takes 5" tests.
+/// given, minus the 1 given on the empty draft.
 #[test]
 fn abacddc() {
     assert_mask("ABACDDC", 122);
-    assert_split("ABACDDC", 2, &[3, 7], [2, 5]);
+    assert_split("ABACDDC", 2, &[3, 7], 2);
     assert_eq!(Board::started(8).longest_centre(), Ok(1));
     let mut run = Beside::fed(b"ABACDDC", MOST_SECTIONS);
     assert_eq!(run.make(Call::LongestCentre), given([1 + 10]));
@@ -90,16 +90,16 @@ fn abacddc() {
 #[test]
 fn aba() {
     assert_mask("ABA", 0b101);
-    assert_split("ABA", 1, &[3], [1, 1]);
-    assert_split("ABA", 3, &[1, 2, 3], [0, 6]);
+    assert_split("ABA", 1, &[3], 1);
+    assert_split("ABA", 3, &[1, 2, 3], 0);
     let mut board = Board::fed(b"ABA", MOST_SECTIONS);
     assert_eq!(board.split(3, 2, &mut [0; 2]), Err(9));
 }
 
 #[test]
-fn split_counts() {
-    for (draft, k, ends, counts) in SPLIT_COUNTS {
-        assert_split(draft, k, ends, counts);
+fn turn_counts() {
+    for (draft, k, ends, turns) in TURN_COUNTS {
+        assert_split(draft, k, ends, turns);
     }
 }
 

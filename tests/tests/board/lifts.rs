@@ -43,8 +43,8 @@ fn splits_and_radii_of_abacddc() {
         let entries = k.into();
         let (reply, list, _) = run.make_lent(Call::Split { prefix, k, entries });
         match SPLITS.iter().find(|split| split.0 == k.into()) {
-            Some((_, ends, counts)) => {
-                assert_eq!(reply, given(*counts), "in {k}");
+            Some((_, ends, turns)) => {
+                assert_eq!(reply, given([*turns]), "in {k}");
                 assert_eq!(list, *ends, "in {k}");
             }
             None => assert_eq!(reply, refused(9), "in {k}"),

@@ -5,10 +5,9 @@ use comparison::beside::{BYTE, ENTRY};
 use comparison::fast::Fast;
 use comparison::full_drafts;
 use comparison::library::{Board, Lent};
-use comparison::plain::{self, SplitCounts};
 use comparison::scripted::{given, refused, Call, Reply};
-use comparison::support::counting::{counts_by_parts, tests_made};
-use comparison::{FIRST_PICK, MOST_PICKS, MOST_SECTIONS};
+use comparison::support::turns::turns_by_parts;
+use comparison::{plain, FIRST_PICK, MOST_PICKS, MOST_SECTIONS};
 
 /// Entries of each ends list, more than the ends there can be.
 const ENTRIES: usize = 11;
@@ -30,7 +29,7 @@ fn split_by(fast: &Fast, i: usize, k: usize) -> (Reply, Vec<u16>) {
     for (entry, &end) in list.iter_mut().zip(&ends) {
         *entry = end as u16;
     }
-    (given(SplitCounts::of(&ends).values()), list)
+    (given([plain::turn_count(&ends)]), list)
 }
 
 /// Splits every one of the prefixes for every k and compares. Counts the splits.
@@ -98,8 +97,7 @@ fn splits_and_records_of_full_drafts() {
 }
 
 /// "Cutting off the longest ending first, whether or not the rest can be split": at
-/// many prefixes of these drafts that is another split, or none. Their tests are made one by
-/// one: the rest splits where its mask says so, or is no picks in no sections.
+/// many prefixes of these drafts that is another split, or none.
 #[test]
 fn the_longest_ending_is_often_no_last_section() {
     let mut others = 0;
@@ -117,12 +115,8 @@ fn the_longest_ending_is_often_no_last_section() {
                 others += 1;
                 let mut list = vec![ENTRY; k];
                 let case = format!("{name}, prefix {i} in {k}");
-                let counts = counts_by_parts(&draft, &ends);
-                assert_eq!(board.split(i, k, &mut list), Ok(counts), "{case}");
-                let made = tests_made(i, k, |start, end, rest| {
-                    fast.row(start) >> rest & 1 == 1 && plain::is_section(&draft[start..end])
-                });
-                assert_eq!(counts.tests, made, "{case}");
+                let turns = turns_by_parts(&draft, &ends);
+                assert_eq!(board.split(i, k, &mut list), Ok(turns), "{case}");
                 assert_eq!(usize::from(list[k - 2]), ends[k - 2], "{case}");
             }
         }
@@ -141,9 +135,7 @@ fn eight_runs(lengths: [usize; MOST_SECTIONS]) -> Vec<u8> {
 }
 
 /// Eight sections, of which any but a long one have one pick, and the others two, three,
-/// 256 or 257: the turn count is the number of the others and the long one. Each of the tests
-/// stands for a section, or for a pick before one: a pick stands before each section that
-/// comes behind its own.
+/// 256 or 257: the turn count is the number of the others and the long one.
 #[test]
 fn sections_of_one_pick_at_each_place() {
     for long in [0, 3, 7] {
@@ -157,10 +149,7 @@ fn sections_of_one_pick_at_each_place() {
             let mut ends = [ENTRY; MOST_SECTIONS];
             let turns = 8 - of_one_pick.count_ones() as usize;
             let answer = board.split(MOST_PICKS, 8, &mut ends);
-            let sections_behind = (0..).zip(lengths.iter().rev());
-            let picks_before = sections_behind.map(|(sections, length)| sections * length);
-            let counts = SplitCounts::new(turns, 8 + picks_before.sum::<usize>());
-            assert_eq!(answer, Ok(counts), "{lengths:?}");
+            assert_eq!(answer, Ok(turns), "{lengths:?}");
             let sums = (1..=8).map(|s| lengths[..s].iter().sum::<usize>());
             assert!(sums.eq(ends.map(usize::from)), "{lengths:?}, {ends:?}");
         }

@@ -1,7 +1,7 @@
 //! The library's reading of records: worked examples with their numbers.
 
 use comparison::beside::BYTE;
-use comparison::calls::{Section, SplitCounts};
+use comparison::calls::Section;
 use comparison::library::{section_at, unfold, Board};
 use comparison::plain::Turn;
 
@@ -146,8 +146,7 @@ fn the_sections_of_a_record() {
 #[test]
 fn a_section_of_one_pick_names_its_middle() {
     let mut board = Board::fed(b"AAA", 8);
-    let counts = Ok(SplitCounts::new(1, 3));
-    assert_eq!(board.split(3, 2, &mut [0; 2]), counts);
+    assert_eq!(board.split(3, 2, &mut [0; 2]), Ok(1));
     let mut record = [BYTE; 12];
     assert_eq!(board.folded_record(3, 2, &mut record), Ok(12));
     assert_eq!(&record, b"3,2,1,A,2,A\n");

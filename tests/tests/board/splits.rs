@@ -8,7 +8,7 @@ use comparison::library::{Board, Lent};
 use comparison::plain;
 use comparison::samples::{every_draft_to, Generator};
 use comparison::scripted::{Call, Reply};
-use comparison::support::counting::{counts_by_parts, tests_made};
+use comparison::support::turns::turns_by_parts;
 use comparison::{MOST_PICKS, MOST_SECTIONS};
 
 /// The comparison program's state of a draft.
@@ -109,9 +109,8 @@ fn longer_drafts() {
 }
 
 /// The split named is the plain definition's as well: of all splits, the one whose
-/// last section is longest, then the one before that. Its turn count and tests are those of
-/// the parts of the draft by the ends that the board gives; and the tests are as many as are
-/// made where starts are tried from place 0 upward, at most k × i.
+/// last section is longest, then the one before that. Its turn count is that of the parts
+/// of the draft by the ends that the board gives.
 #[test]
 fn the_split_named_among_all_splits() {
     for draft in every_draft_to(2, 9) {
@@ -126,14 +125,7 @@ fn the_split_named_among_all_splits() {
             };
             let ends: Vec<usize> = list.into_iter().map(usize::from).collect();
             assert_eq!(ends, named, "{case}");
-            let counts = counts_by_parts(&draft, &ends);
-            assert_eq!(answer, Ok(counts), "{case}");
-            let made = tests_made(draft.len(), k, |start, end, rest| {
-                let is_section = plain::is_section(&draft[start..end]);
-                is_section && plain::named_split(&draft[..start], rest).is_some()
-            });
-            assert_eq!(counts.tests, made, "{case}");
-            assert!(made <= k * draft.len(), "{case}");
+            assert_eq!(answer, Ok(turns_by_parts(&draft, &ends)), "{case}");
         }
     }
 }

@@ -1,11 +1,10 @@
-//! What document 01 says follows from its definitions, on every small draft; and turns
-//! and tests by the parts of the draft, the tests one by one too.
+//! What document 01 says follows from its definitions, on every small draft; and turn
+//! counts by the parts of the draft.
 
 use comparison::fast::Fast;
-use comparison::plain::{self, SplitCounts};
 use comparison::samples::{every_draft_to, repeated, Generator};
-use comparison::support::counting::{counts_by_parts, tests_made};
-use comparison::MOST_SECTIONS;
+use comparison::support::turns::turns_by_parts;
+use comparison::{plain, MOST_SECTIONS};
 
 /// Every draft over two letters to length 12 and over three to length 8.
 fn small_drafts() -> impl Iterator<Item = Vec<u8>> {
@@ -99,46 +98,23 @@ fn bit_0_and_the_mask() {
     }
 }
 
-/// "The number of its sections with two or more picks", of every split into 1 to 8, and its
-/// tests: every count of turns from 0 to k is among those into k.
+/// "The number of its sections with two or more picks", of every split into 1 to 8: every
+/// count of turns from 0 to k is among those into k.
 #[test]
-fn split_counts_by_the_parts_of_the_draft() {
+fn turn_counts_by_the_parts_of_the_draft() {
     let longer = (11..=16).map(|length| repeated(b"AABB", length));
     let drafts: Vec<Vec<u8>> = every_draft_to(2, 10).chain(longer).collect();
     for k in 1..=MOST_SECTIONS {
         let mut given = vec![false; k + 1];
         for draft in &drafts {
             for ends in plain::all_splits(draft, k) {
-                let counts = SplitCounts::of(&ends);
+                let turns = plain::turn_count(&ends);
                 let text = String::from_utf8_lossy(draft);
-                assert_eq!(counts, counts_by_parts(draft, &ends), "{text} {ends:?}");
-                given[counts.turns] = true;
+                assert_eq!(turns, turns_by_parts(draft, &ends), "{text} {ends:?}");
+                given[turns] = true;
             }
         }
         assert!(!given.contains(&false), "in {k}: {given:?}");
-    }
-}
-
-/// "Starts are tried from place 0 upward": the tests made are as many as the sum says, and
-/// "never exceed k × i". A draft of k picks in k takes half of that and k / 2 more.
-#[test]
-fn tests_one_by_one() {
-    for draft in every_draft_to(2, 9).chain(every_draft_to(3, 6)) {
-        for k in 1..=MOST_SECTIONS {
-            let Some(ends) = plain::named_split(&draft, k) else {
-                continue;
-            };
-            let made = tests_made(draft.len(), k, |start, end, rest| {
-                let is_section = plain::is_section(&draft[start..end]);
-                is_section && !plain::all_splits(&draft[..start], rest).is_empty()
-            });
-            let text = String::from_utf8_lossy(&draft);
-            assert_eq!(plain::test_count(&ends), made, "{text} in {k}");
-            assert!(made <= k * draft.len(), "{text} in {k}");
-            if draft.len() == k {
-                assert_eq!(2 * made, k * draft.len() + k, "{text} in {k}");
-            }
-        }
     }
 }
 

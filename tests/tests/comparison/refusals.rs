@@ -4,7 +4,7 @@ mod all_calls;
 
 use crate::support::fed::fed;
 use all_calls::{load_number, numbers_of_all_calls, stored};
-use comparison::calls::{self, NextEnding, SplitCounts};
+use comparison::calls::{self, NextEnding};
 use comparison::support::bad_ends::BAD_ENDS;
 use comparison::{MOST_SECTIONS, VISIT_ROOM};
 
@@ -33,8 +33,7 @@ fn number_1_in_split_and_record() {
         }
         for k in [1, most_sections] {
             // the last section has 11 - k picks, each before it one
-            let counts = Ok(SplitCounts::new(1, (1..=k).sum()));
-            assert_eq!(calls::split(&state, 10, k, &mut [0; 16]), counts);
+            assert_eq!(calls::split(&state, 10, k, &mut [0; 16]), Ok(1));
             let accepted = calls::folded_record(&state, 10, k, &mut [0; 99]);
             assert!(accepted.is_ok(), "k {k}");
         }
@@ -69,10 +68,9 @@ fn number_13() {
     for k in 1..=MOST_SECTIONS {
         // the last section has 9 - k picks, each before it one
         let turns = if k < 8 { 1 } else { 0 };
-        let counts = Ok(SplitCounts::new(turns, (1..=k).sum()));
         assert_eq!(calls::split(&state, 8, k, &mut vec![0; k - 1]), Err(13));
-        assert_eq!(calls::split(&state, 8, k, &mut vec![0; k]), counts);
-        assert_eq!(calls::split(&state, 8, k, &mut vec![0; k + 1]), counts);
+        assert_eq!(calls::split(&state, 8, k, &mut vec![0; k]), Ok(turns));
+        assert_eq!(calls::split(&state, 8, k, &mut vec![0; k + 1]), Ok(turns));
     }
 }
 
@@ -81,8 +79,7 @@ fn number_4_by_prefix() {
     let state = fed(b"ABA", MOST_SECTIONS);
     assert_eq!(calls::mask_of_prefix(&state, 0), Ok(0));
     assert_eq!(calls::mask_of_prefix(&state, 3), Ok(5));
-    let counts = Ok(SplitCounts::new(1, 1));
-    assert_eq!(calls::split(&state, 3, 1, &mut [0; 1]), counts);
+    assert_eq!(calls::split(&state, 3, 1, &mut [0; 1]), Ok(1));
     assert_eq!(calls::folded_record(&state, 3, 1, &mut [0; 99]), Ok(9));
     for i in [4, 1 << 16, usize::MAX] {
         assert_eq!(calls::mask_of_prefix(&state, i), Err(4));

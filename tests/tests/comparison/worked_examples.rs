@@ -4,12 +4,12 @@
 use crate::support::both::{both, both_masks, both_splits};
 use crate::support::fed::fed;
 use crate::support::longest_mirrored::assert_longest_mirrored;
-use comparison::calls::{self, NextEnding, SplitCounts, State};
+use comparison::calls::{self, NextEnding, State};
 use comparison::fast::Fast;
 use comparison::samples::{every_draft_to, repeated};
 use comparison::support::ending_examples::ENDINGS;
 use comparison::support::mark_examples::sessions;
-use comparison::support::split_counts::SPLIT_COUNTS;
+use comparison::support::turn_counts::TURN_COUNTS;
 use comparison::{plain, FIRST_PICK, LAST_PICK, MOST_PICKS, MOST_SECTIONS, VISIT_ROOM};
 
 /// The mask and the visits of the whole draft, on both paths and from its last feed.
@@ -39,14 +39,14 @@ fn assert_mask(draft: &str, mask: u8) {
 }
 
 /// The named split of the whole draft in k, on both paths and from the call, which gives
-/// the turn count and the tests too.
-fn assert_split(draft: &str, k: usize, ends: &[usize], [turns, tests]: [usize; 2]) {
+/// the turn count too.
+fn assert_split(draft: &str, k: usize, ends: &[usize], turns: usize) {
     both_splits(draft, k, Some(ends));
     let mut list = vec![0; k];
     let state = fed(draft.as_bytes(), MOST_SECTIONS);
     assert_eq!(
         calls::split(&state, draft.len(), k, &mut list),
-        Ok(SplitCounts::new(turns, tests)),
+        Ok(turns),
         "{draft} in {k}"
     );
     let given: Vec<usize> = list.iter().map(|&end| usize::from(end)).collect();
@@ -77,7 +77,7 @@ fn runs_of_one_letter() {
     assert_mask_and_visits("A", 1, &[1]);
     assert_mask("AA", 3);
     assert_mask_and_visits("AAA", 7, &[3, 1]);
-    assert_split("AAA", 2, &[1, 3], [1, 3]);
+    assert_split("AAA", 2, &[1, 3], 1);
 }
 
 #[test]
@@ -90,7 +90,7 @@ fn alternating_letters() {
 #[test]
 fn abacddc() {
     assert_mask("ABACDDC", 122);
-    assert_split("ABACDDC", 2, &[3, 7], [2, 5]);
+    assert_split("ABACDDC", 2, &[3, 7], 2);
     both("ABACDDC", 11, plain::longest_centre, Fast::longest_centre);
     let on_empty = calls::longest_centre(&fed(b"", MOST_SECTIONS)).unwrap();
     let at_end = calls::longest_centre(&fed(b"ABACDDC", MOST_SECTIONS)).unwrap();
@@ -161,16 +161,16 @@ fn the_last_pick_the_visit_list_and_the_bytes_beside_the_letters() {
 
 #[test]
 fn aba_splits_in_1_and_in_3_never_in_2() {
-    assert_split("ABA", 1, &[3], [1, 1]);
+    assert_split("ABA", 1, &[3], 1);
     assert_no_split("ABA", 2);
-    assert_split("ABA", 3, &[1, 2, 3], [0, 6]);
+    assert_split("ABA", 3, &[1, 2, 3], 0);
 }
 
 #[test]
-fn split_counts() {
-    for (draft, k, ends, counts) in SPLIT_COUNTS {
+fn turn_counts() {
+    for (draft, k, ends, turns) in TURN_COUNTS {
         let ends: Vec<usize> = ends.iter().map(|&end| usize::from(end)).collect();
-        assert_split(draft, usize::from(k), &ends, counts);
+        assert_split(draft, usize::from(k), &ends, turns);
     }
 }
 

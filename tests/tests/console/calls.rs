@@ -12,7 +12,7 @@ use comparison::support::mark_lines::{
     assert_every_count, assert_every_length, assert_every_name, assert_full_drafts,
 };
 use comparison::support::next_lines::assert_every_centre;
-use comparison::support::split_lines::assert_split_counts;
+use comparison::support::turn_lines::assert_turn_counts;
 use comparison::MOST_PICKS;
 
 /// "Drafts at the edges", K = 8, with document 01's numbers.
@@ -133,9 +133,9 @@ fn next_endings_at_every_centre() {
 /// Sections of one pick, of two and of more; a list of k entries is printed alike with
 /// `--all`.
 #[test]
-fn split_counts() {
+fn turn_counts() {
     for all in [false, true] {
-        assert_split_counts(feeds, |input| compare(all, input));
+        assert_turn_counts(feeds, |input| compare(all, input));
     }
 }
 

@@ -49,7 +49,7 @@ fn the_worked_example() {
 fn other_drafts() {
     let lines = [
         "1 A: mask 1, sections 1",
-        "1 sections, 0 turns, 1 tests of at most 1",
+        "1 sections, 0 turns",
         "section 1: A",
         "1,1,1,A",
         "unfolded: A",
@@ -64,8 +64,7 @@ fn other_drafts() {
         "\n2048,8,1,A,1,A,1,A,1,A,1,A,1,A,1,A,2041,{}\nunfolded: {draft}\n",
         "A".repeat(1_021)
     );
-    let counts = "\n8 sections, 1 turns, 36 tests of at most 16384\n";
-    assert!(printed.contains(counts), "{printed}");
+    assert!(printed.contains("\n8 sections, 1 turns\n"), "{printed}");
     assert!(printed.contains(&record), "{printed}");
     assert!(
         printed.ends_with("\n2041 picks, turning on pick 1028\n"),

@@ -15,8 +15,8 @@ use comparison::support::mark_lines::{
     assert_every_count, assert_every_length, assert_every_name, assert_full_drafts,
 };
 use comparison::support::next_lines::assert_every_centre;
-use comparison::support::split_lines::assert_split_counts;
 use comparison::support::transcript::assert_session;
+use comparison::support::turn_lines::assert_turn_counts;
 use comparison::MOST_PICKS;
 use std::path::{Path, PathBuf};
 use std::process::Command;
@@ -151,8 +151,8 @@ fn next_endings_at_every_centre() {
 
 /// Sections of one pick, of two and of more.
 #[test]
-fn split_counts() {
-    assert_split_counts(feeds, |input| compare(&IN_C, input));
+fn turn_counts() {
+    assert_turn_counts(feeds, |input| compare(&IN_C, input));
 }
 
 /// Drafts of 2,048 picks and one more, with calls behind them.
@@ -194,7 +194,7 @@ fn a_library_without_the_calls() {
         "radius 255 0",
         "longest 255 0",
         "next 255 0 0 0",
-        "split 255 0 0",
+        "split 255 0",
         "record 255 0",
         "lift 255 0",
         "unfold 255 0 0",

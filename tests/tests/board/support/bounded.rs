@@ -6,7 +6,7 @@ use comparison::beside::{BYTE, ENTRY};
 use comparison::calls::{Placed, Refusal};
 use comparison::library::Board;
 use comparison::listed::{found, listed, listed_by_marks};
-use comparison::plain::{self, are_ends, Lifts, SplitCounts};
+use comparison::plain::{self, are_ends, turn_count, Lifts};
 use comparison::scripted::{number_of, Call, Reply, VALUES};
 use comparison::{FIRST_PICK, LETTERS, VISIT_ROOM};
 use std::fmt::Display;
@@ -14,8 +14,8 @@ use std::fmt::Display;
 /// Makes a call on any stored state. "There 1 to 4 and 8 still hold, and beyond them
 /// the call need only end within bounds." A refusal keeps every byte, and so does a
 /// reading call of the state; an accepted call keeps the entries past those named, an
-/// accepted split counts the turns and tests of the ends that it gives, and the stored picks,
-/// lifts and marks are as the call leaves them. Gives the number that it is refused with.
+/// accepted split counts the turns of the ends that it gives, and the stored picks, lifts and
+/// marks are as the call leaves them. Gives the number that it is refused with.
 pub fn make_within_bounds(board: &mut Board, call: Call, step: impl Display) -> Option<Refusal> {
     let (n, most_sections) = (board.n(), board.most_sections());
     let (lifts, marks) = (board.lifts(), board.marks());
@@ -60,14 +60,13 @@ fn is_possible(reply: Reply, number: Option<Placed>, call: Call, stored: Stored)
 
 /// Whether an accepted call can give these values: a count of visits is 19 at most, what
 /// is told of an ending is as it always is, a lift is the stored one, and there is no value
-/// more. Those of a split are looked at with its ends.
+/// more.
 fn are_possible(values: [usize; VALUES], call: Call, (n, lifts): Stored) -> bool {
     match (call, values) {
         (Call::NextEnding { centre }, _) => is_told(values, usize::from(centre), n),
         (Call::Lift { letter }, _) => values == [lift_by(lifts, letter).into(), 0, 0],
         (Call::Load { .. } | Call::Mark { .. } | Call::Back { .. }, _) => values == [0; VALUES],
         (Call::Feed { .. }, [_, visits, 0]) => visits <= VISIT_ROOM,
-        (Call::Split { .. }, [_, _, third]) => third == 0,
         (_, [_, second, third]) => [second, third] == [0, 0],
     }
 }
@@ -137,15 +136,13 @@ impl Left {
     }
 }
 
-/// Whether an accepted split has filled in ends of its prefix, and gives what is counted of
-/// them: the number of sections with two or more picks; and the tests, at most k × i.
+/// Whether an accepted split has filled in ends of its prefix, and gives their turn count:
+/// the number of sections with two or more picks.
 pub fn is_counted(call: Call, reply: Reply, ends: &[u16]) -> bool {
     match (call, reply) {
-        (Call::Split { prefix, .. }, Ok([turns, tests, _])) => {
+        (Call::Split { prefix, .. }, Ok([turns, ..])) => {
             let ends: Vec<usize> = ends.iter().map(|&end| end.into()).collect();
-            are_ends(&ends, prefix.into())
-                && SplitCounts::new(turns, tests) == SplitCounts::of(&ends)
-                && tests <= ends.len() * usize::from(prefix)
+            are_ends(&ends, prefix.into()) && turns == turn_count(&ends)
         }
         _ => true,
     }

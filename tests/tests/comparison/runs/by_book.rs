@@ -1,9 +1,9 @@
 //! The calls of a run, each answered from the plain book.
 
 use comparison::book::Book;
-use comparison::calls::{self, Answer, Placed, SplitCounts, State, Taken};
+use comparison::calls::{self, Answer, Placed, State, Taken};
 use comparison::plain;
-use comparison::support::counting::counts_by_parts;
+use comparison::support::turns::turns_by_parts;
 
 /// A call of a run with its arguments.
 #[derive(Debug)]
@@ -38,12 +38,7 @@ fn feed_by_book(book: &Book, taken: bool, pick: u8, entries: usize) -> (Answer<T
 }
 
 /// The split's answer and the front of the list, from the book.
-fn split_by_book(
-    book: &Book,
-    i: usize,
-    k: usize,
-    entries: usize,
-) -> (Answer<SplitCounts>, Vec<u16>) {
+fn split_by_book(book: &Book, i: usize, k: usize, entries: usize) -> (Answer<usize>, Vec<u16>) {
     if k == 0 || k > book.most_sections {
         return (Err(1), Vec::new());
     }
@@ -56,8 +51,8 @@ fn split_by_book(
     let Some(ends) = plain::named_split(&book.word()[..i], k) else {
         return (Err(9), Vec::new());
     };
-    let counts = counts_by_parts(&book.row, &ends);
-    (Ok(counts), ends.iter().map(|&end| end as u16).collect())
+    let turns = turns_by_parts(&book.row, &ends);
+    (Ok(turns), ends.iter().map(|&end| end as u16).collect())
 }
 
 /// The number of a load that the book does not take, and its place.
@@ -100,12 +95,7 @@ fn assert_feed(state: &mut State, book: &mut Book, pick: u8, entries: usize) {
 }
 
 /// Splits prefix i in k, and asserts that the answer and the list are those of the book.
-fn assert_split(
-    state: &State,
-    book: &Book,
-    [i, k]: [usize; 2],
-    entries: usize,
-) -> Answer<SplitCounts> {
+fn assert_split(state: &State, book: &Book, [i, k]: [usize; 2], entries: usize) -> Answer<usize> {
     let mut list = list_with(&[], entries);
     let answer = calls::split(state, i, k, &mut list);
     let (expected, front) = split_by_book(book, i, k, entries);
@@ -126,7 +116,7 @@ pub fn assert_call(state: &mut State, book: &mut Book, call: &Call) -> Option<us
         Call::Feed(pick, entries) => assert_feed(state, book, pick, entries),
         Call::Split(i, k, entries) => {
             let answer = assert_split(state, book, [i, k], entries);
-            return answer.ok().map(|counts| k - counts.turns);
+            return answer.ok().map(|turns| k - turns);
         }
         Call::LongestCentre => {
             let expected = Ok(plain::longest_centre(&book.word()));

@@ -80,7 +80,6 @@ split-spec =
     slice-aggregate-turn-count
     (λ c κs. search rules)
     (λ c. search rules)
-    (λ c. search rules)
     returns-2
     (λ c. search rules)
     returns-3)
