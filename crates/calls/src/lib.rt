@@ -1,5 +1,7 @@
 // The calls, each on what it is lent of a state: start and back on all of it, feed on all but the marks, load on the table of lifts,
 // mark on the marks, the others on the parts that they read; show is given no state.
+#![tactic(auto)]
+
 pub mod back;
 pub mod feed;
 pub mod fold;

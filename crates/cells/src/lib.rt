@@ -1,14 +1,16 @@
 // Total access to the stored arrays: outside of an array 0 is read and nothing is stored.
 // Beside it what every access needs: the two kinds of index, and numbers made wider and narrower.
+#![tactic(auto)]
+
 ghost use Rattle.std.specs.Prelude.{◌≡◌, ◌-◌, ◌<◌, min, max, [], get_or, set, length};
 ghost use Rattle.cells.specs.Lanes.{centre_entries, place_entries, centre_lanes, place_lanes, by_centre, centre_stored, by_place, place_stored};
 
 // A centre, counted in half picks (document 01, "Centres are counted in half picks and places in whole picks").
-#[derive(Drop)]
+#[derive(Clone, Copy)]
 pub struct Centre(pub usize);
 
 // A place, counted in whole picks: place i stands after the first i picks.
-#[derive(Drop)]
+#[derive(Clone, Copy)]
 pub struct Place(pub usize);
 
 // The most picks of a draft (document 01, "A draft has 0 to 2,048 picks").
@@ -68,7 +70,7 @@ pub const ROWS: usize = 1;
 pub const GATHERED: usize = 2;
 
 // The numbers of the state: how many picks, K, the centre of the longest ending.
-#[derive(Drop)]
+#[derive(Clone, Copy)]
 pub struct Numbers {
     pub n: usize,
     pub k: usize,

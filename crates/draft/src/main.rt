@@ -1,4 +1,6 @@
 // The draft program (document 01, "The draft program reads standard input"): K and the picks in, a line for each pick out.
+#![tactic(auto)]
+
 use refusals::start_refusal;
 
 mod answer;

@@ -1,5 +1,7 @@
 // The calls for a host: a script of calls on a state in lent arrays, a section shown, a record read back.
 // No proof binds a host, so these functions take any contents.
+#![tactic(auto)]
+
 ghost use Rattle.std.specs.Prelude.{◌≡◌, true, [], ◌∷◌, ◌+◌, ◌≤◌, ◌<◌, length, take};
 ghost use Rattle.std.proofs.lemmas.List.Edits.{sets};
 ghost use Rattle.promises.specs.Answers.{found_numbers};

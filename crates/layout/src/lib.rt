@@ -1,5 +1,7 @@
 // The folded record, for the writer and the reader. No code: the layout, what a record unfolds to and what a reader of it
 // yields are in specs/.
+#![tactic(auto)]
+
 use cells::Place;
 
 // A section's middle (document 02, "either on a pick or between two picks"): the pick's number in the draft, or that of the

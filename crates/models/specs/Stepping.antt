@@ -1,7 +1,7 @@
 -- The engine's invariant: one letter more keeps it, and the row word, the visits and their count are those of `words`.
 use Rattle.std.specs.Prelude.{◌≡◌, List, ◌++◌}
 use Rattle.std.proofs.Math.Path.{sym, ap}
-use Rattle.std.proofs.Common.{◌∙◌, arith}
+use Rattle.std.proofs.Common.{subst, set, ◌∙◌, arith}
 use Prim.Native.Nat.{ℕ, suc, ◌+◌, ◌-◌, ◌≤◌, ◌<◌}
 use Rattle.std.proofs.Math.Decide.{ℕ_discrete}
 use Rattle.std.proofs.Math.ListN.{length, drop, length-set}
@@ -39,10 +39,10 @@ gathers_as {K} {n = n} f h = record {
 -- no letter: the one place has the row word 1
 pub gathers_none : (K : ℕ) (w : ℕ → ℕ) {R G : List ℕ} → length R ≡ place_entries → length G ≡ place_entries → at R 0 ≡ 1 → at G 0 ≡ 1 → Gathers K w 0 R G
 unfolding gathered_word
-gathers_none K w p q r s = record {
+gathers_none K w {R} p q r s = record {
   size_rows = p;
   size_gathered = q;
-  rows = λ i l. let z : i ≡ 0 = omega arith in rw z (r ∙ sym (row_empty K w));
+  rows = λ i l. subst (λ j. at R j ≡ row_word K w j) (omega arith) (r ∙ sym (row_empty K w));
   all = λ i l. let z : i ≡ 0 = omega arith in rw z (s ∙ sym (gathered_own bit_or (row_word K w) w 0 ∙ row_empty K w));
 }
 
@@ -101,7 +101,7 @@ module _ (K : ℕ) (w : ℕ → ℕ) (m s : ℕ) (v : ByPlace) (N : List ℕ) (h
           size_rows = omega (arith, length-set v.rows (suc m) x, h.size_rows);
           size_gathered = omega (arith, length-set z.gathered (suc m) x, size);
           rows = λ i l. elim (ℕ_discrete i (suc m)) [
-            | yes e ↦ rw e (set_here v.rows (suc m) x (omega (arith, h.size_rows)) ∙ row_right)
+            | yes e ↦ subst (λ j. at (set v.rows (suc m) x) j ≡ row_word K w j) (sym e) (set_here v.rows (suc m) x (omega (arith, h.size_rows)) ∙ row_right)
             | no e ↦ set_there v.rows (suc m) i x e ∙ h.rows i (omega arith)
           ];
           all = λ i l. elim (ℕ_discrete i (suc m)) [

@@ -1,4 +1,6 @@
 // Document 01's declarations: the state, and an enum for each answer. No code: what the calls promise is in specs/.
+#![tactic(auto)]
+
 use cells::{ByCentre, ByPlace, Centre, Letters, Lifts, Marks};
 
 // The numbers of the refusals that come after a search: no split, no ending with the centre, a record longer than the output (or

@@ -1,4 +1,6 @@
 // A folded record read back: the picks that it unfolds to, and its sections one by one.
+#![tactic(auto)]
+
 ghost use Rattle.reader.specs.Reader.{NextPromise};
 
 use crate::section::section_at;

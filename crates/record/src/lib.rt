@@ -1,4 +1,6 @@
 // The folded record (document 01, "fields in a fixed order parted by commas"): its count of bytes, and writing it into a lent output.
+#![tactic(auto)]
+
 ghost use Rattle.std.specs.Prelude.{◌≡◌, ℕ, ◌+◌, ◌*◌, ◌≤◌, length};
 ghost use Rattle.std.proofs.lemmas.List.Edits.{sets};
 ghost use Rattle.words.specs.Definitions.{most_picks, most_sections, word};

@@ -1,5 +1,7 @@
 // The numbers of the refusals: each line of the documents' lists, and for each call the first that it meets. 0 is none.
 // Number 6 stands with show; 9, 10, 5, 15, 17 and 18 come after a search, with the calls that make it.
+#![tactic(auto)]
+
 ghost use Rattle.std.specs.Prelude.{◌≡◌, ◌+◌, ◌*◌, ◌≤◌};
 ghost use Rattle.promises.specs.Refusals.{line1, line2, line3, line4, line7, line8, line13, line14, line16, start_refusal, feed_refusal, mask_refusal, centre_refusal, longest_refusal, split_refusal, record_refusal, letter_refusal};
 ghost use Rattle.promises.specs.RefusalLaws.{or_else};

@@ -1,4 +1,6 @@
 // The feeds of a whole draft on lent arrays, one after another: what bench/ times.
+#![tactic(auto)]
+
 ghost use Rattle.std.specs.Prelude.{◌≡◌, List, ℕ};
 ghost use Rattle.cells.specs.Lanes.{by_centre, by_place};
 ghost use Rattle.promises.specs.State.{draft_in};

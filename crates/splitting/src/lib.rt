@@ -1,5 +1,7 @@
 // The search for the split named: from the last section back to the first, each section's start tried from place 0 upward;
 // and the turn count of a split.
+#![tactic(auto)]
+
 ghost use Rattle.std.specs.Prelude.{◌≡◌, [], ◌∷◌, ◌+◌, ◌<◌, ◌≤◌, eqb};
 ghost use Rattle.words.specs.Definitions.{most_picks, most_sections, turns_of, turn_count, bit};
 ghost use Rattle.models.specs.Iterator.{longest_of};

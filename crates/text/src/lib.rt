@@ -1,5 +1,6 @@
 // Text: the bytes that part fields and close lines, and writers of bytes into a lent output from a place on.
 // Outside of the output nothing is stored.
+#![tactic(auto)]
 
 pub mod bytes;
 pub mod decimal;

@@ -68,6 +68,7 @@ module _ {op : ℕ → ℕ → ℕ} (J : Semilattice op) where
 
   pub all_has : (g : ℕ → ℕ) (a : ℕ) (s : List ℕ) (x : ℕ) → Memᴰ x s → Le (g x) (join_all op g a s)
   unfolding join_all
+  all_has g a [] x m = elim m [ ]
   all_has g a (y ∷ s) x (Memᴰ.head e) = rw e (le_trans _ _ _ (le_right a (g y)) (all_from g (op a (g y)) s))
   all_has g a (y ∷ s) x (Memᴰ.tail m) = all_has g (op a (g y)) s x m
 

@@ -41,11 +41,11 @@ cut_sections {e = e} (b ∷ t) f (next g h) =
 
 -- a split into k + 1 sections is a split of a shorter prefix into k, and a section
 pub cut : {w : ℕ → ℕ} {n k : ℕ} {t : List ℕ} → Split w n (suc k) t → Cut w n 0 k t
-cut {w} {n} {k} {t} h = go t h.is h.count
+cut {w} {n} {k} {t} h = go 0 t h.is h.count
   where
-    go : (t : List ℕ) → Sections w n 0 t → length t ≡ suc k → Cut w n 0 k t
-    go [] s c = absurd (omega arith)
-    go (e ∷ t) (next f s) c = let z : length t ≡ k = omega arith in rw z at (cut_sections t f s)
+    go : (a : ℕ) (t : List ℕ) → Sections w n a t → length t ≡ suc k → Cut w n a k t
+    go a [] s c = absurd (omega arith)
+    go a (e ∷ t) (next f s) c = let z : length t ≡ k = omega arith in rw z at (cut_sections t f s)
 
 pub split_before : {w : ℕ → ℕ} {n k : ℕ} {t : List ℕ} (c : Cut w n 0 k t) → Split w c.at k c.rest
 split_before c = record { is = c.before; count = c.count }
@@ -127,11 +127,26 @@ split_law w (suc k) n = cut_law w n k (λ a. split_of w a k) (λ a. split_law w 
 
 -- two splits that are each before every other are one
 
+not_both : {s t u v : List ℕ} → Smaller s t → Smaller u v → s ≡ v → t ≡ u → ⊥
+not_both (here {a = a} {b = b} l) (here {a = c} {b = d} m) e f =
+    let x : a ≡ d = cc in
+    let y : b ≡ c = cc in
+    omega arith
+not_both (here {a = a} {b = b} l) (further {a = c} q) e f =
+    let x : a ≡ c = cc in
+    let y : b ≡ c = cc in
+    omega arith
+not_both (further {a = a} p) (here {a = c} {b = d} m) e f =
+    let x : a ≡ d = cc in
+    let y : a ≡ c = cc in
+    omega arith
+not_both (further {s = s} {t = t} p) (further {s = u} {t = v} q) e f =
+    let x : s ≡ v = cc in
+    let y : t ≡ u = cc in
+    not_both p q x y
+
 smaller_not : {s t : List ℕ} → Smaller s t → Smaller t s → ⊥
-smaller_not (here l) (here m) = omega arith
-smaller_not (here l) (further q) = omega arith
-smaller_not (further p) (here m) = omega arith
-smaller_not (further p) (further q) = smaller_not p q
+smaller_not p q = not_both p q refl refl
 
 pub named_one : {w : ℕ → ℕ} {n k : ℕ} {s t : List ℕ} → Named w n k s → Named w n k t → s ≡ t
 named_one {s = s} {t = t} p q = elim (List-discrete ℕ_discrete s t) [
