@@ -89,7 +89,7 @@ pub fits : {p c len : ℕ} {fs : List Folded} {half : List ℕ} → Valid (in_ha
     → Fits (record { len = len; half = half })
 fits h l = record { ranged = h.4; halved = omega (arith, h.6); lettered = h.5 }
 
-pub step_back : {s t : State} {b : ℕ} → Steps s b t → Valid s → Led t (bytes_to s ++ b ∷ [])
+pub step_back : {s : State} {b : ℕ} {t : State} → Steps s b t → Valid s → Led t (bytes_to s ++ b ∷ [])
 unfolding bytes_to
 step_back (picks_digit {v = v} {b = b} d w) h = (w.high, digits_on v b d w.low)
 step_back (picks_end {v = v} l) h = ((record { low = l; high = h }, omega arith), rw (digits_some v l))

@@ -19,7 +19,7 @@ module _ {A : Type 0} {P : A → Type 0} where
   pub every_take : {l : List A} (n : ℕ) → Every P l → Every P (take n l)
   every_take zero h = none
   every_take (suc n) none = none
-  every_take (suc n) (more p ps) = more p (every_take n ps)
+  every_take (suc n) (more {a = a} {l = l} p ps) = more p (every_take {l = l} n ps)
 
   pub every_reverse : (l : List A) → Every P l → Every P (reverse l)
   every_reverse [] h = none
