@@ -60,6 +60,7 @@ tested = refl
 -- from the test to each row
 
 at_row : {A : Type 0} (f g : Row → A) (rows : List Row) → map f rows ≡ map g rows → (r : Row) → Memᴰ r rows → f r ≡ g r
+at_row f g [] e r h = elim h [ ]
 at_row f g (x ∷ rows) e r (Memᴰ.head p) = let z : f x ≡ g x = cc in rw p z
 at_row f g (x ∷ rows) e r (Memᴰ.tail h) = let z : map f rows ≡ map g rows = cc in at_row f g rows z r h
 

@@ -72,7 +72,7 @@ module _ {d : Draft} {b : Book} (h : Holds d b) where
 pub kept : {d : Draft} {b : Book} (ms : List Made) → Run d ms → Holds d b → Holds (last d ms) (write_all b (calls ms))
 unfolding Run last write_all
 kept [] t h = h
-kept (m ∷ ms) t h = kept ms t.1 (keep h m t.0)
+kept {d = d} (m ∷ ms) t h = kept {d = leaves d m} ms t.1 (keep h m t.0)
 
 pub upto : (d : Draft) (xs ys : List Made) (m : Made) → Run d (xs ++ m ∷ ys) → Run d xs × Meets (last d xs) m
 unfolding Run last

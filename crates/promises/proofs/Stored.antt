@@ -118,7 +118,7 @@ module _ {d : Draft} {b : Book} (h : Holds d b) (e : d ≡ state_of_book b) wher
 run_state : {d : Draft} {b : Book} (ms : List Made) → Run d ms → Holds d b → d ≡ state_of_book b → last d ms ≡ state_of_book (write_all b (calls ms))
 unfolding Run last write_all
 run_state [] t h e = e
-run_state (m ∷ ms) t h e = run_state ms t.1 (keep h m t.0) (call_state h e m t.0)
+run_state {d = d} (m ∷ ms) t h e = run_state {d = leaves d m} ms t.1 (keep h m t.0) (call_state h e m t.0)
 
 pub state_of_book_lem : StateOfBook
 unfolding Run last leaves write_all call_of write with_picks

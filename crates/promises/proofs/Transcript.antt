@@ -12,7 +12,7 @@ use Rattle.promises.proofs.Keeping.{keep, replied, opened}
 replied_all : {d : Draft} {b : Book} (ms : List Made) → Run d ms → Holds d b → map reply_of ms ≡ replies b (calls ms)
 unfolding Run replies
 replied_all [] t h = refl
-replied_all (m ∷ ms) t h = ap₂ (λ x xs. x ∷ xs) (replied h m t.0) (replied_all ms t.1 (keep h m t.0))
+replied_all {d = d} (m ∷ ms) t h = ap₂ (λ x xs. x ∷ xs) (replied h m t.0) (replied_all {d = leaves d m} ms t.1 (keep h m t.0))
 
 -- of calls behind others, from the book as those left it
 pub replied_split : (b : Book) (xs ys : List Made) → map reply_of (xs ++ ys) ≡ replies b (calls (xs ++ ys))

@@ -29,7 +29,7 @@ unfolding with_picks
 picks_hold {d} {b} [] h l = subst (λ r. Holds d (book b.K b.lifts r b.marks)) (sym (append-nil b.row)) h
 picks_hold {d} {b} (x ∷ picks) h l =
     subst (λ r. Holds (with_picks (with_pick d x) picks) (book b.K b.lifts r b.marks)) (append_assoc b.row (x ∷ []) picks)
-    (picks_hold picks (pick_holds h x (omega arith)) (omega (arith, length-append b.row (x ∷ []))))
+    (picks_hold {d = with_pick d x} picks (pick_holds h x (omega arith)) (omega (arith, length-append b.row (x ∷ []))))
 
 -- the state of a book holds what stands in it
 book_holds : (b : Book) → 1 ≤ b.K → b.K ≤ most_sections → length b.row ≤ most_picks → Holds (state_of_book b) b

@@ -23,7 +23,7 @@ pub const NO_MARK: u8 = 17;
 pub const FIFTH_NAME: u8 = 18;
 
 // The state of the board. Any numbers may be stored in it; a start does not look at them, and makes it an empty draft.
-#[derive(Drop)]
+#[derive(Clone, Copy)]
 pub struct Draft {
     // The picks so far, and K.
     pub n: usize,
@@ -48,32 +48,32 @@ pub struct Draft {
     pub gathered: ByPlace,
 }
 
-#[derive(Drop)]
+#[derive(Clone, Copy)]
 pub enum StartAnswer {
     Begun,
     Refused(u8),
 }
 
-#[derive(Drop)]
+#[derive(Clone, Copy)]
 pub struct Started {
     pub answer: StartAnswer,
     pub state: Draft,
 }
 
-#[derive(Drop)]
+#[derive(Clone, Copy)]
 pub enum FeedAnswer {
     // The mask, and the count of visits.
     Taken(u8, usize),
     Refused(u8),
 }
 
-#[derive(Drop)]
+#[derive(Clone, Copy)]
 pub struct Fed {
     pub answer: FeedAnswer,
     pub state: Draft,
 }
 
-#[derive(Drop)]
+#[derive(Clone, Copy)]
 pub enum LoadAnswer {
     InForce,
     Refused(u8),
@@ -81,72 +81,72 @@ pub enum LoadAnswer {
     RefusedAt(u8, usize),
 }
 
-#[derive(Drop)]
+#[derive(Clone, Copy)]
 pub struct Loaded {
     pub answer: LoadAnswer,
     pub state: Draft,
 }
 
 // The answer to setting a mark, and to going back to one.
-#[derive(Drop)]
+#[derive(Clone, Copy)]
 pub enum MarkAnswer {
     Done,
     Refused(u8),
 }
 
-#[derive(Drop)]
+#[derive(Clone, Copy)]
 pub struct Marked {
     pub answer: MarkAnswer,
     pub state: Draft,
 }
 
-#[derive(Drop)]
+#[derive(Clone, Copy)]
 pub enum MaskAnswer {
     Mask(u8),
     Refused(u8),
 }
 
-#[derive(Drop)]
+#[derive(Clone, Copy)]
 pub enum RadiusAnswer {
     Radius(usize),
     Refused(u8),
 }
 
 // The answer to the longest ending's centre.
-#[derive(Drop)]
+#[derive(Clone, Copy)]
 pub enum CentreAnswer {
     At(Centre),
     Refused(u8),
 }
 
-#[derive(Drop)]
+#[derive(Clone, Copy)]
 pub enum NextAnswer {
     // The centre of the next shorter ending; the length and the least period of the ending given.
     Shorter(Centre, usize, usize),
     Refused(u8),
 }
 
-#[derive(Drop)]
+#[derive(Clone, Copy)]
 pub enum SplitAnswer {
     // The turn count: how many sections have two or more picks.
     Split(usize),
     Refused(u8),
 }
 
-#[derive(Drop)]
+#[derive(Clone, Copy)]
 pub enum RecordAnswer {
     // The record's count of bytes.
     Written(usize),
     Refused(u8),
 }
 
-#[derive(Drop)]
+#[derive(Clone, Copy)]
 pub enum LiftAnswer {
     Lift(u8),
     Refused(u8),
 }
 
-#[derive(Drop)]
+#[derive(Clone, Copy)]
 pub enum UnfoldAnswer {
     // The count of picks.
     Unfolded(usize),
