@@ -6,10 +6,10 @@ use Rattle.std.proofs.lemmas.Bool.{false≢true}
 use Rattle.std.proofs.Math.Bool.{and-eq-true_iff}
 use Rattle.std.proofs.Math.Decide.{ℕ_discrete}
 use Rattle.io.specs.Counts.{IsPrefixLen}
-use Rattle.words.specs.Cases.{true_false}
+use Rattle.words.proofs.Cases.{true_false}
 use Rattle.words.specs.Definitions.{most_sections, most_visits, word}
 use Rattle.words.specs.Computed.{longest}
-use Rattle.words.specs.Laws.{longest_centre_lem, longest_is}
+use Rattle.words.proofs.Laws.{longest_centre_lem, longest_is}
 use Rattle.models.specs.Centres.{longest_centre_at}
 use Rattle.text.specs.Definitions.{line_end, digit_zero}
 use Rattle.promises.specs.declared.Draft.{Draft}

@@ -3,7 +3,7 @@ use Rattle.std.specs.Prelude.{◌≡◌, refl, Bool, true, false, List, ◌++◌
 use Rattle.std.proofs.Common.{sym, ap, subst, ◌∙◌, arith, length-drop, take-append-drop}
 use Rattle.std.proofs.Math.Option.{Option, some, none}
 use Rattle.std.proofs.lemmas.List.Edits.{sets}
-use Rattle.words.specs.Cases.{true_false}
+use Rattle.words.proofs.Cases.{true_false}
 use Rattle.promises.specs.declared.Draft.{Draft}
 use Rattle.promises.specs.Book.{Call}
 use Rattle.promises.specs.State.{draft_in}

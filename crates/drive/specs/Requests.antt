@@ -6,7 +6,7 @@ use Rattle.std.proofs.Math.Option.{Option, some, none}
 use Rattle.std.proofs.Math.Decide.{dec_lt, ℕ_discrete}
 use Rattle.std.proofs.lemmas.Bool.{lt-leb}
 use Rattle.std.proofs.Math.ListN.{get_or-eq_default}
-use Rattle.words.specs.Cases.{clash}
+use Rattle.words.proofs.Cases.{clash}
 use Rattle.promises.specs.Book.{Call, longest}
 use Rattle.drive.specs.Script.{Buffers, buffers, asking, first_query, writing_count, query_count, counted, is_call, call_on, nothing, source_at, pair, sizes_for, call_for, call_size, next_call, next_sizes}
 use Rattle.drive.specs.Drives.{answer_size}

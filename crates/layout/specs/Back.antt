@@ -5,7 +5,7 @@ use Rattle.std.proofs.Math.Option.{Option, some, none}
 use native.Mathlib.Omega.{arith}
 use Rattle.std.proofs.Math.Decide.{dec_lt}
 use Rattle.words.specs.Definitions.{From, most_picks, most_sections}
-use Rattle.words.specs.Cases.{clash}
+use Rattle.words.proofs.Cases.{clash}
 use Rattle.text.specs.Definitions.{comma, line_end, digit_zero, decimal}
 use Rattle.text.specs.Decimal.{decimal_digit, decimal_more}
 use Rattle.layout.specs.Record.{Folded, fields_of, behind_commas, laid_out}

@@ -2,7 +2,7 @@
 use Rattle.std.specs.Prelude.{◌≡◌, refl, Bool, true, false, ◌↔◌, List, [], ◌∷◌, ◌++◌, ℕ, zero, suc, ◌<◌, length, get_or, take, drop}
 use Rattle.std.proofs.Common.{sym, ap, ◌∙◌, append_assoc, arith, length-append, take-append-drop, length-take-le, get_or-take, take-suc}
 use Rattle.std.proofs.Math.Option.{some, none}
-use Rattle.words.specs.Cases.{clash, true_false}
+use Rattle.words.proofs.Cases.{clash, true_false}
 use Rattle.text.specs.Definitions.{decimal}
 use Rattle.text.specs.Decimal.{decimal_digits}
 use Rattle.layout.specs.Layout.{Every, none as every-none, Digit, NumberOutside, BreaksAt, number, byte}

@@ -4,7 +4,7 @@ use Rattle.std.proofs.Common.{ap, arith}
 use Rattle.std.proofs.Math.Decide.{dec_lt}
 use Rattle.std.proofs.Math.ListN.{get_or-eq_default}
 use Rattle.words.specs.Ranges.{between_true, true_between}
-use Rattle.words.specs.Cases.{true_false}
+use Rattle.words.proofs.Cases.{true_false}
 use Rattle.text.specs.Definitions.{digit_zero}
 use Rattle.layout.specs.Layout.{Every, none as every-none, more as every_more, Digit}
 use Rattle.layout.specs.Reading.{is_digit, number_at}

@@ -3,7 +3,7 @@ use Rattle.std.specs.Prelude.{◌≡◌, refl, Bool, true, false, List, [], ◌�
 use Rattle.std.proofs.Common.{sym, ap, ◌∙◌, append_assoc, arith, length-append, get_or-append-add}
 use Rattle.std.proofs.Math.Option.{some}
 use Rattle.words.specs.Definitions.{From, most_picks, most_sections}
-use Rattle.words.specs.Cases.{clash}
+use Rattle.words.proofs.Cases.{clash}
 use Rattle.text.specs.Definitions.{comma, line_end, decimal}
 use Rattle.layout.specs.Record.{Folded}
 use Rattle.layout.specs.Layout.{Every, none as every-none, more as every_more, Letter, Digit, Fits}

@@ -6,7 +6,7 @@ use mathlib.Core.List.{List, [], ◌∷◌, ◌++◌, append_assoc, append-nil}
 use Rattle.std.proofs.Math.Option.{Option, some, none}
 use native.Mathlib.Omega.{arith}
 use Rattle.words.specs.Definitions.{From, most_picks, most_sections}
-use Rattle.words.specs.Cases.{clash}
+use Rattle.words.proofs.Cases.{clash}
 use Rattle.text.specs.Definitions.{comma, line_end, digit_zero, decimal}
 use Rattle.text.specs.Decimal.{by_digits}
 use Rattle.layout.specs.Record.{Folded, fields_of, behind_commas, laid_out}

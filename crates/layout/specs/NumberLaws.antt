@@ -11,7 +11,7 @@ use Rattle.std.proofs.Math.ListN.{length, get_or-append}
 use Rattle.std.proofs.Math.Seq.{take-append-add}
 use Rattle.std.proofs.lemmas.List.{take-append-le, get_or_at}
 use Rattle.words.specs.Definitions.{From}
-use Rattle.words.specs.Cases.{clash}
+use Rattle.words.proofs.Cases.{clash}
 use Rattle.text.specs.Definitions.{comma, decimal}
 use Rattle.layout.specs.Layout.{Every, more as every_more, Digit, opening, NumberDue, of_picks, of_sections, of_length, NumberOutside}
 use Rattle.layout.specs.Reading.{State, start, onward, in_number, step, run, one_past, reach}

@@ -6,7 +6,7 @@ use Rattle.std.proofs.Common.{arith}
 use borrow.Author.Tests.{lt-leb, le-leb, lt-ltb, le-ltb, eq-eqb, leb-true, ltb-true, ltb-false, eqb-true}
 use Rattle.words.specs.Definitions.{From, most_picks, most_sections, first_letter, last_letter}
 use Rattle.words.specs.Ranges.{between, between_true, true_between}
-use Rattle.words.specs.Cases.{clash}
+use Rattle.words.proofs.Cases.{clash}
 use Rattle.text.specs.Definitions.{comma, line_end, digit_zero}
 use Rattle.layout.specs.Record.{Folded}
 use Rattle.layout.specs.Layout.{Letter, Digit}

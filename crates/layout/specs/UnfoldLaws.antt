@@ -8,7 +8,7 @@ use Rattle.std.proofs.Math.ListN.{length, take, drop, length-append, length-take
 use Rattle.std.proofs.Math.Seq.{take_at}
 use Rattle.words.specs.Definitions.{word, stretch, prefix, Palindrome, Sections, done, next, Split}
 use Rattle.words.specs.Mirror.{stretch_length, stretch_join, prefix_take, palindrome_mirror}
-use Rattle.words.specs.Splits.{append_parts, split_joined}
+use Rattle.words.proofs.Splits.{append_parts, split_joined}
 use Rattle.layout.specs.Record.{Folded, laid_out, folded_of, record_of}
 use Rattle.layout.specs.Layout.{Every, none as every-none, more as every_more, Letter, Fits, total, Passes}
 use Rattle.layout.specs.Unfolding.{unfolded, picks_of, ends_of, Unfolds}

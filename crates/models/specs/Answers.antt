@@ -5,8 +5,8 @@ use Rattle.std.proofs.Math.Option.{Option, some, none}
 use Rattle.words.specs.Definitions.{most_picks, centre, length_at}
 use Rattle.words.specs.Search.{largest_one, smallest_one}
 use Rattle.words.specs.Computed.{least_period, longest_centre, next_ending, NextShorter, next_shorter, shorter_after, next_after, radius_at}
-use Rattle.words.specs.Laws.{least_period_lem, next_ending_lem, NextAfter, there, nowhere, next_law}
-use Rattle.words.specs.Prefixes.{Agree}
+use Rattle.words.proofs.Laws.{least_period_lem, next_ending_lem, NextAfter, there, nowhere, next_law}
+use Rattle.words.proofs.Prefixes.{Agree}
 use Rattle.models.specs.Centres.{EndingAt, NextEndingAt, fore_next, ending_at, at_ending, next_ending_at}
 use Rattle.models.specs.Iterator.{Iterator, radius_of, longest_of, is_ending, period_at, appended}
 use Rattle.models.specs.Stores.{at}

@@ -10,7 +10,7 @@ use Rattle.std.specs.Int.Bits.{bit_or}
 use Rattle.cells.specs.Lanes.{centre_entries, place_entries, ByCentre, ByPlace, with_heads}
 use Rattle.words.specs.Definitions.{most_picks, most_visits, word}
 use Rattle.words.specs.Computed.{longest_centre, visits, row_word}
-use Rattle.words.specs.Prefixes.{Agree}
+use Rattle.words.proofs.Prefixes.{Agree}
 use Rattle.models.specs.Centres.{longest_centre_at}
 use Rattle.models.specs.Iterator.{Iterator, iterator, appended}
 use Rattle.models.specs.Engine.{longest_length, walk_all, Stepped, stepped}

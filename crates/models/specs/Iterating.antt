@@ -7,10 +7,10 @@ use Rattle.std.proofs.Math.Decide.{dec_le, dec_lt, ℕ_discrete}
 use Rattle.std.proofs.Math.ListN.{length-set}
 use Rattle.std.proofs.lemmas.Bool.{lt-leb}
 use Rattle.cells.specs.Lanes.{centre_entries, place_entries}
-use Rattle.words.specs.Cases.{true_false}
+use Rattle.words.proofs.Cases.{true_false}
 use Rattle.words.specs.Definitions.{most_picks, length_at, LeastPeriod}
 use Rattle.words.specs.Periods.{whole_period}
-use Rattle.words.specs.Prefixes.{Agree, agree_back}
+use Rattle.words.proofs.Prefixes.{Agree, agree_back}
 use Rattle.words.specs.Computed.{longest_centre, radius_at}
 use Rattle.models.specs.Centres.{EndingAt, Widest, NextEndingAt, at_as, longest_centre_at, next_least, radius_widest}
 use Rattle.models.specs.Reflection.{StartsAt, empty_at}

@@ -2,7 +2,7 @@
 use Rattle.std.specs.Prelude.{◌≡◌, ℕ, suc, ◌+◌, ◌*◌, ◌-◌, min, ◌≤◌, ◌<◌}
 use Rattle.std.proofs.Common.{sym, ap, ◌∙◌, arith}
 use Rattle.std.proofs.Math.Decide.{dec_le, dec_lt}
-use Rattle.words.specs.Prefixes.{Agree}
+use Rattle.words.proofs.Prefixes.{Agree}
 use Rattle.models.specs.Centres.{EndingAt, Widest, widest_as}
 
 module _ {w : ℕ → ℕ} where

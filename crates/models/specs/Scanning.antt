@@ -8,7 +8,7 @@ use native.Mathlib.Omega.{arith}
 use Rattle.std.proofs.Math.Decide.{ℕ_discrete}
 use Rattle.cells.specs.Lanes.{centre_entries, place_entries}
 use Rattle.words.specs.Definitions.{most_picks, Largest}
-use Rattle.words.specs.Prefixes.{Agree, agree_back}
+use Rattle.words.proofs.Prefixes.{Agree, agree_back}
 use Rattle.models.specs.Centres.{EndingAt, Widest, LongestEndingAt, widest_one, widest_as, longest_at_as}
 use Rattle.models.specs.Reflection.{StartsAt, narrower, widest_reflect, goes_on_lem, went_on, stays, stayed, single_at, starts_as}
 use Rattle.models.specs.Iterator.{start, reflected_radius, extends, Scanned, scanned, scan}

@@ -11,7 +11,7 @@ use Rattle.std.proofs.lemmas.Bool.{lt-leb}
 use Rattle.words.specs.Definitions.{Ending, bit}
 use Rattle.words.specs.Mirror.{ending?}
 use Rattle.words.specs.Computed.{cut_last, split_of, splits, row_word}
-use Rattle.words.specs.Laws.{row_at}
+use Rattle.words.proofs.Laws.{row_at}
 use Rattle.models.specs.Centres.{ending_at, at_ending}
 use Rattle.models.specs.Reflection.{narrower}
 use Rattle.models.specs.Iterator.{radius_of}

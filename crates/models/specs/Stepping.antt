@@ -11,11 +11,11 @@ use Rattle.cells.specs.Lanes.{place_entries, ByPlace}
 use Rattle.words.specs.Definitions.{most_picks, LongestEnding}
 use Rattle.words.specs.Search.{passing_skip}
 use Rattle.words.specs.Computed.{leading?, visits, row_word, gathered, gathered_word, join_all, raised}
-use Rattle.words.specs.Laws.{row_empty}
-use Rattle.words.specs.Series.{longest_leads}
-use Rattle.words.specs.Proposition3.{gathered_own, gathered_kept}
-use Rattle.words.specs.Rows.{row_law}
-use Rattle.words.specs.Prefixes.{Agree, row_as, gathered_word_as}
+use Rattle.words.proofs.Laws.{row_empty}
+use Rattle.words.proofs.Series.{longest_leads}
+use Rattle.words.proofs.Proposition3.{gathered_own, gathered_kept}
+use Rattle.words.proofs.Rows.{row_law}
+use Rattle.words.proofs.Prefixes.{Agree, row_as, gathered_word_as}
 use Rattle.models.specs.Centres.{LongestEndingAt}
 use Rattle.models.specs.Engine.{longest_length, Walked, walk_all, Stepped, stepped}
 use Rattle.models.specs.Stores.{at, set_here, set_there}

@@ -3,7 +3,7 @@ use Rattle.std.specs.Prelude.{◌≡◌, true, false, List, [], ◌∷◌, ◌++
 use Rattle.std.proofs.Common.{sym, ap, ◌∙◌, arith, zero-add, add-zero, get_or-set_same, get_or-set_other, lt-ltb, le-ltb, eq-eqb, ne_eqb}
 use Rattle.std.proofs.Math.Decide.{dec_lt, ℕ_discrete}
 use Rattle.std.proofs.lemmas.List.Edits.{sets, sets-eq}
-use Rattle.words.specs.Cases.{clash}
+use Rattle.words.proofs.Cases.{clash}
 use Rattle.models.specs.Iterator.{start, extends}
 
 -- the numbers of the arrays

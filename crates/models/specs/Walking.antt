@@ -10,10 +10,10 @@ use Rattle.std.proofs.Math.ListN.{length, length-set}
 use Rattle.words.specs.Definitions.{most_picks, most_visits, centre, length_at, LongestEnding, LeastPeriod, Leading, Cubic, next_leading}
 use Rattle.words.specs.Search.{passing, passing_with, passing_skip}
 use Rattle.words.specs.Computed.{leading?, cubic?, gathered, mended, join_all}
-use Rattle.words.specs.Lengths.{next_third}
-use Rattle.words.specs.Series.{next_is}
-use Rattle.words.specs.FewVisits.{Shrinking, one, next, few, nineteen}
-use Rattle.words.specs.Proposition3.{gathered_kept, gathered_mended}
+use Rattle.words.proofs.Lengths.{next_third}
+use Rattle.words.proofs.Series.{next_is}
+use Rattle.words.proofs.FewVisits.{Shrinking, one, next, few, nineteen}
+use Rattle.words.proofs.Proposition3.{gathered_kept, gathered_mended}
 use Rattle.models.specs.Centres.{EndingAt, LongestEndingAt, fore_next, ending_at, longest_ending}
 use Rattle.models.specs.Linked.{Linked}
 use Rattle.models.specs.Engine.{period_of, longest_length, Walked, walked, walk}

@@ -7,7 +7,7 @@ use lib.ListN.{length}
 use Rattle.words.specs.Definitions.{most_sections, most_visits, first_letter, last_letter, word}
 use Rattle.promises.specs.Lifts.{table_size}
 use Rattle.words.specs.Computed.{longest_centre}
-use Rattle.words.specs.Laws.{longest_is, visits_are}
+use Rattle.words.proofs.Laws.{longest_is, visits_are}
 use Rattle.promises.specs.declared.Draft.{Draft}
 use Rattle.promises.specs.Answers.{filled}
 use Rattle.layout.specs.Record.{record_of}

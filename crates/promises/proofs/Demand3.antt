@@ -9,15 +9,15 @@ use native.Mathlib.Omega.{arith}
 use lib.ListN.{length, take, drop, length-append}
 use lib.Seq.{take_at, drop_at}
 use borrow.Author.Tests.{le-leb}
-use Rattle.words.specs.Cases.{true_false}
+use Rattle.words.proofs.Cases.{true_false}
 use Rattle.words.specs.Ranges.{between}
 use Rattle.words.specs.Definitions.{most_picks, most_sections, first_letter, last_letter, word, centre, Ending, next_leading, Follows, Visits}
 use Rattle.words.specs.Computed.{split_of, visits, longest_centre, least_period, next_ending, shorter_after}
 use Rattle.words.specs.Computed.{longest as longest_of}
-use Rattle.words.specs.Laws.{least_period_lem, longest_is, longest_centre_lem, next_after_lem, visits_are}
-use Rattle.words.specs.FewVisits.{few_visits, visits_some}
-use Rattle.words.specs.Visiting.{visit_leads, visit_next}
-use Rattle.words.specs.Splits.{Splitting, given, lacking, split_law}
+use Rattle.words.proofs.Laws.{least_period_lem, longest_is, longest_centre_lem, next_after_lem, visits_are}
+use Rattle.words.proofs.FewVisits.{few_visits, visits_some}
+use Rattle.words.proofs.Visiting.{visit_leads, visit_next}
+use Rattle.words.proofs.Splits.{Splitting, given, lacking, split_law}
 use Rattle.models.specs.Core.{means}
 use Rattle.models.specs.Centres.{longest_centre_at}
 use Rattle.promises.specs.declared.Draft.{Draft}

@@ -12,7 +12,7 @@ use Rattle.words.specs.Definitions.{most_picks, most_sections, most_visits, firs
 use Rattle.words.specs.Ranges.{between}
 use Rattle.words.specs.Computed.{longest_centre, split_of}
 use Rattle.words.specs.Computed.{mask as mask_of, visits as lengthsOf, radius_at as radius_of}
-use Rattle.words.specs.Laws.{longest_centre_lem}
+use Rattle.words.proofs.Laws.{longest_centre_lem}
 use Rattle.promises.specs.Answers.{gave, reply}
 use Rattle.promises.specs.Lifts.{fixed_lifts, lifted_by}
 use Rattle.promises.specs.Replies.{or_no_split, split_reply, refusal_of, fed_visits, found_for, reply_to}

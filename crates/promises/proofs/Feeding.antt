@@ -7,7 +7,7 @@ use Prim.Native.Nat.{ℕ, ◌<◌}
 use lib.Dec.{leb, ltb}
 use lib.ListN.{length}
 use borrow.Author.Tests.{ltb-true}
-use Rattle.words.specs.Cases.{true_false}
+use Rattle.words.proofs.Cases.{true_false}
 use Rattle.words.specs.Definitions.{most_picks, most_visits, first_letter, last_letter}
 use Rattle.promises.specs.declared.Draft.{Draft}
 use Rattle.promises.specs.declared.Fed.{Fed}

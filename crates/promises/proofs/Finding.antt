@@ -10,14 +10,14 @@ use native.Mathlib.Decide.{dec_lt}
 use lib.Dec.{leb, ltb}
 use lib.ListN.{length}
 use borrow.Author.Tests.{ltb-true, ltb-false, le-leb, lt-leb}
-use Rattle.words.specs.Cases.{clash}
+use Rattle.words.proofs.Cases.{clash}
 use Rattle.words.specs.Definitions.{word}
 use Rattle.words.specs.Search.{smallest_one}
 use Rattle.words.specs.Periods.{next_period}
 use Rattle.words.specs.Computed.{NextShorter, shorter_after, next_after, radius_at, split_of}
 use Rattle.words.specs.Computed.{mask as mask_of}
-use Rattle.words.specs.Laws.{row_bit, row_past, mask_bit, least_period_lem, next_ending_lem, NextAfter, there, nowhere, next_law, radius_at_lem}
-use Rattle.words.specs.Splits.{Splitting, given, lacking, split_law, named_one}
+use Rattle.words.proofs.Laws.{row_bit, row_past, mask_bit, least_period_lem, next_ending_lem, NextAfter, there, nowhere, next_law, radius_at_lem}
+use Rattle.words.proofs.Splits.{Splitting, given, lacking, split_law, named_one}
 use Rattle.promises.specs.Answers.{gave, refused, Under, Reply, reply, filled}
 use Rattle.layout.specs.Record.{record_of}
 use Rattle.promises.specs.Marks.{Marks, most_marks, mark_at, is_mark, how_many, room_for}

@@ -7,7 +7,7 @@ use Prim.Native.Nat.{ℕ}
 use lib.Dec.{leb, ltb}
 use lib.ListN.{length}
 use borrow.Author.Tests.{le-leb}
-use Rattle.words.specs.Cases.{clash, true_false}
+use Rattle.words.proofs.Cases.{clash, true_false}
 use Rattle.words.specs.Definitions.{most_picks, most_sections, most_visits, first_letter, last_letter}
 use Rattle.words.specs.Ranges.{between, between_true}
 use Rattle.layout.specs.Layout.{Every, none, Letter}

@@ -7,11 +7,11 @@ use native.Mathlib.Omega.{arith}
 use Rattle.words.specs.Definitions.{centre, radius, Ending, Mirrored, Period, LeastPeriod, Leading, Sections, done, next, Split, Named}
 use Rattle.words.specs.Search.{smallest_one, largest_as, passing_as}
 use Rattle.words.specs.Mirror.{mirror, ending, ending?, mirrored?, section_ending, ending_section}
-use Rattle.words.specs.Bits.{bits_as}
+use Rattle.words.proofs.Bits.{bits_as}
 use Rattle.words.specs.Computed.{leading?, least_period, longest, longest_centre, next_ending, shorter_after, next_after, radius_at, visits, split_of, splits, row_word}
 use Rattle.words.specs.Computed.{mask as mask_of}
-use Rattle.words.specs.Laws.{least_period_lem, NextAfter, there, nowhere, next_law, next_after_lem}
-use Rattle.words.specs.Splits.{Splitting, given, lacking, split_law, named_one}
+use Rattle.words.proofs.Laws.{least_period_lem, NextAfter, there, nowhere, next_law, next_after_lem}
+use Rattle.words.proofs.Splits.{Splitting, given, lacking, split_law, named_one}
 
 -- where two of the first n letters of w are equal, so are those of v
 abbrev pub Like : (w v : ℕ → ℕ) (n : ℕ) → Type 0

@@ -14,7 +14,7 @@ use Rattle.words.specs.Computed.{rising?}
 use Rattle.promises.specs.Lifts.{none_zero, first_zero}
 use Rattle.promises.specs.LiftLaws.{zero_there, zero_nowhere}
 use Rattle.promises.specs.Refusals.{test, line4, line6, line7, line8, line15, show_refusal}
-use Rattle.words.specs.Cases.{true_false}
+use Rattle.words.proofs.Cases.{true_false}
 use Rattle.words.specs.Ranges.{between, between_true}
 use Rattle.promises.specs.Listed.{Line, line, First, NoneMet, Outside, prefix_above, ends_not_rising, zero_lift, no_draft, full, show_lines}
 

@@ -8,7 +8,7 @@ use Prim.Native.Nat.{ℕ, ◌-◌, ◌≤◌}
 use native.Mathlib.Omega.{arith}
 use lib.ListN.{length, length-append, length-map, length-set}
 use lib.Seq.{length-take-le, get_or-set_same, get_or-set_other}
-use Rattle.words.specs.Cases.{clash}
+use Rattle.words.proofs.Cases.{clash}
 use Rattle.words.specs.Definitions.{first_letter, last_letter}
 use Rattle.words.specs.Ranges.{between, between_true}
 use Rattle.layout.specs.Layout.{Letter}

@@ -7,7 +7,7 @@ use Prim.Native.Nat.{ℕ}
 use native.Mathlib.Omega.{arith}
 use lib.Dec.{eqb}
 use borrow.Author.Tests.{eqb-true, eq-eqb}
-use Rattle.words.specs.Cases.{clash, true_false}
+use Rattle.words.proofs.Cases.{clash, true_false}
 use Rattle.promises.specs.Answers.{Said, refused, refused_at, Under}
 use Rattle.promises.specs.Lifts.{first_zero, FirstZero}
 use Rattle.promises.specs.LiftLaws.{first_is}

@@ -9,7 +9,7 @@ use lib.Seq.{take-append_seam}
 use borrow.Author.Tests.{eq-eqb, le-leb}
 use Rattle.words.specs.Definitions.{From, most_picks, most_sections}
 use Rattle.words.specs.Definitions.{word, stretch, prefix, lengths_back, Sections, done, next, Named}
-use Rattle.words.specs.Cases.{clash}
+use Rattle.words.proofs.Cases.{clash}
 use Rattle.cells.specs.declared.Place.{Place}
 use Rattle.layout.specs.declared.Section.{Section}
 use Rattle.layout.specs.declared.Turn.{Turn}

@@ -6,7 +6,7 @@ use Prim.Native.Nat.{ℕ}
 use native.Mathlib.Decide.{ℕ_discrete}
 use lib.ListN.{length}
 use Rattle.words.specs.Definitions.{word}
-use Rattle.words.specs.GatheredWords.{row_is, gathered_word_is}
+use Rattle.words.proofs.GatheredWords.{row_is, gathered_word_is}
 use Rattle.promises.specs.declared.Draft.{Draft}
 use Rattle.promises.specs.declared.Started.{Started}
 use Rattle.promises.specs.declared.Fed.{Fed}

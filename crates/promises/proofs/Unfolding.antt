@@ -8,7 +8,7 @@ use native.Mathlib.Decide.{ℕ_discrete}
 use lib.Dec.{leb, eqb}
 use lib.ListN.{length}
 use borrow.Author.Tests.{eqb-true, eqb-false, leb-true, leb-false}
-use Rattle.words.specs.Cases.{clash}
+use Rattle.words.proofs.Cases.{clash}
 use Rattle.layout.specs.Record.{Folded}
 use Rattle.layout.specs.Layout.{Laid, Layout, total, Passes, BreaksAt}
 use Rattle.layout.specs.Unfolding.{picks_of}

@@ -6,7 +6,7 @@ use Rattle.std.proofs.Math.Option.{Option, some, none}
 use Rattle.std.proofs.Math.Decide.{dec_lt}
 use Rattle.std.proofs.Math.Seq.{append_snoc}
 use Rattle.std.proofs.lemmas.Bool.{lt-leb}
-use Rattle.words.specs.Cases.{clash}
+use Rattle.words.proofs.Cases.{clash}
 use Rattle.words.specs.Definitions.{first_letter}
 use Rattle.promises.specs.Lifts.{table_size}
 use Rattle.promises.specs.Marks.{Marks, most_marks, no_marks, mark_at, is_mark, how_many, room_for, set_mark, up_to, drop_longer, entry_of, entries, read_mark, marks_in}

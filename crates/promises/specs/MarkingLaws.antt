@@ -6,7 +6,7 @@ use Rattle.std.proofs.Math.Bool.{true, false}
 use Prim.Native.Nat.{ℕ, suc, ◌+◌, ◌-◌, ◌≤◌, ◌<◌}
 use native.Mathlib.Omega.{arith}
 use Rattle.std.proofs.Math.ListN.{get_or}
-use Rattle.words.specs.Cases.{clash}
+use Rattle.words.proofs.Cases.{clash}
 use Rattle.words.specs.Definitions.{first_letter, last_letter}
 use Rattle.words.specs.Ranges.{between}
 use Rattle.cells.specs.declared.Numbers.{Numbers}

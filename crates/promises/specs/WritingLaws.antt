@@ -11,8 +11,8 @@ use Rattle.cells.specs.Lanes.{ByCentre, ByPlace}
 use Rattle.words.specs.Definitions.{most_picks, most_sections, word}
 use Rattle.words.specs.Computed.{visits}
 use Rattle.words.specs.Computed.{mask as mask_of}
-use Rattle.words.specs.Laws.{row_lt}
-use Rattle.words.specs.Prefixes.{Agree}
+use Rattle.words.proofs.Laws.{row_lt}
+use Rattle.words.proofs.Prefixes.{Agree}
 use Rattle.models.specs.Stores.{set_here, set_there}
 use Rattle.models.specs.Core.{Arrays, After, append, append_arrays, Appends, Means, means, held_none}
 use Rattle.models.specs.Core.{Holds as ArraysHold}

@@ -4,7 +4,7 @@ use Rattle.std.specs.Prelude.{◌≡◌, refl, Bool, true, false, cond, List, []
 use Rattle.std.proofs.Common.{sym, ap, ◌∙◌, arith, add-one, take-suc, take_all, length-take-le, eqb-true}
 use Rattle.std.proofs.Math.Option.{Option, some, none}
 use Rattle.std.proofs.lemmas.Bool.{eqb-false}
-use Rattle.words.specs.Cases.{clash}
+use Rattle.words.proofs.Cases.{clash}
 use Rattle.layout.specs.Reading.{State, in_picks, in_count, in_length, in_half, closed, start, and_then, step, run, one_past, reach}
 use Rattle.layout.specs.Steps.{Steps, steps}
 use Rattle.layout.specs.Back.{bytes_to, Valid, back}

@@ -1,21 +1,8 @@
 -- what the terms mean
 pub mod Definitions
 pub mod Computed
-pub mod Laws
--- the theory
+-- decisions, and what they rest on
 pub mod Search
 pub mod Mirror
 pub mod Periods
-pub mod Lengths
-pub mod Series
-pub mod FewVisits
-pub mod Visiting
-pub mod Proposition3
-pub mod Gathering
-pub mod Bits
-pub mod Cases
 pub mod Ranges
-pub mod Splits
-pub mod Rows
-pub mod GatheredWords
-pub mod Prefixes

@@ -10,10 +10,10 @@ use Rattle.words.specs.Definitions.{Ending, LeastPeriod, Leading}
 use Rattle.words.specs.Search.{passing, passing_is}
 use Rattle.words.specs.Mirror.{ending?}
 use Rattle.words.specs.Computed.{leading?, least_period, join_steps, later_places, gathered, join_all, visits}
-use Rattle.words.specs.Laws.{least_period_lem, longest_is}
-use Rattle.words.specs.Lengths.{places_end}
-use Rattle.words.specs.Series.{longest_leads, period_fits, series_ending, ending_series, Series, in_series}
-use Rattle.words.specs.Proposition3.{gathered_series}
+use Rattle.words.proofs.Laws.{least_period_lem, longest_is}
+use Rattle.words.proofs.Lengths.{places_end}
+use Rattle.words.proofs.Series.{longest_leads, period_fits, series_ending, ending_series, Series, in_series}
+use Rattle.words.proofs.Proposition3.{gathered_series}
 
 -- an operation by which values can be gathered: union of words is one
 pub record Semilattice (op : ℕ → ℕ → ℕ) : Type 0 where

@@ -8,9 +8,9 @@ use Rattle.words.specs.Definitions.{most_picks, most_visits, Leading, Falling, a
 use Rattle.words.specs.Search.{passing}
 use Rattle.words.specs.Mirror.{single_ending}
 use Rattle.words.specs.Computed.{least_period, visits}
-use Rattle.words.specs.Laws.{least_period_lem, visits_are}
-use Rattle.words.specs.Lengths.{next_third}
-use Rattle.words.specs.Series.{next_is, period_fits}
+use Rattle.words.proofs.Laws.{least_period_lem, visits_are}
+use Rattle.words.proofs.Lengths.{next_third}
+use Rattle.words.proofs.Series.{next_is, period_fits}
 
 -- each entry is less than two thirds of the one before
 pub data Shrinking : List ℕ → Type 0 where

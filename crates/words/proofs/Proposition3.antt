@@ -10,9 +10,9 @@ use Rattle.words.specs.Search.{largest, largest_eq, largest_one, largest_on, sma
 use Rattle.words.specs.Mirror.{mirror}
 use Rattle.words.specs.Periods.{shorter, window, overlap, extend, retract}
 use Rattle.words.specs.Computed.{leading?, leads_from?, cubic?, least_period, join_steps, later_places, gather_over, gathered, mended, updated}
-use Rattle.words.specs.Laws.{least_period_lem, leads_own, last_lead}
-use Rattle.words.specs.Lengths.{places_end, places_one, places_more}
-use Rattle.words.specs.Series.{period_fits, next_is}
+use Rattle.words.proofs.Laws.{least_period_lem, leads_own, last_lead}
+use Rattle.words.proofs.Lengths.{places_end, places_one, places_more}
+use Rattle.words.proofs.Series.{period_fits, next_is}
 
 -- The key: a leading ending of three periods or more, and the stretch with the same start that is one period shorter
 module _ {w : ℕ → ℕ} {n len m k p : ℕ} (L : Leading w n len) (a : LeastPeriod w n len p) (s : m + p ≡ n) (t : k + p ≡ len) (l : 2 * p ≤ k) where

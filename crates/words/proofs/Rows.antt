@@ -10,9 +10,9 @@ use Rattle.words.specs.Definitions.{Ending}
 use Rattle.words.specs.Search.{passing, passing_is}
 use Rattle.words.specs.Mirror.{ending?, section_ending, ending_section}
 use Rattle.words.specs.Computed.{split_of, splits, row_word, gathered_word, join_all, raised, visits}
-use Rattle.words.specs.Splits.{Splitting, given, lacking, split_law, split_none, cut, split_before, uncut, splits_one, splits_zero, splits_small}
-use Rattle.words.specs.Gathering.{Semilattice, gathering, all_has, all_within}
-use Rattle.words.specs.Bits.{union_assoc, Bits, up, bits_as, joined_bits, joined_small, raised_bits}
+use Rattle.words.proofs.Splits.{Splitting, given, lacking, split_law, split_none, cut, split_before, uncut, splits_one, splits_zero, splits_small}
+use Rattle.words.proofs.Gathering.{Semilattice, gathering, all_has, all_within}
+use Rattle.words.proofs.Bits.{union_assoc, Bits, up, bits_as, joined_bits, joined_small, raised_bits}
 
 union_semilattice : Semilattice bit_or
 union_semilattice = record { assoc = union_assoc; comm = or_comm; idem = or_self }

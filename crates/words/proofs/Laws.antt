@@ -10,8 +10,8 @@ use Rattle.words.specs.Search.{both?, largest, largest_is, smallest_is, passing_
 use Rattle.words.specs.Mirror.{empty_ending, single_ending, ending?, mirrored?}
 use Rattle.words.specs.Periods.{whole_period, period?}
 use Rattle.words.specs.Computed.{leading?, leads_from?, least_period, longest, longest_centre, moved, next_ending, NextShorter, shorter_after, next_after, radius_at, visits, splits, bits, row_word, mask}
-use Rattle.words.specs.Splits.{given, lacking, split_law, joined_split, split_joined, cut, no_picks, splits_one, splits_zero, splits_small}
-use Rattle.words.specs.Bits.{bits_at, bits_past, bits_lt}
+use Rattle.words.proofs.Splits.{given, lacking, split_law, joined_split, split_joined, cut, no_picks, splits_one, splits_zero, splits_small}
+use Rattle.words.proofs.Bits.{bits_at, bits_past, bits_lt}
 
 module _ {w : ℕ → ℕ} {n : ℕ} where
   -- every stretch that is not empty has a least period

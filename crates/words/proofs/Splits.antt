@@ -6,7 +6,7 @@ use mathlib.Core.List.{List, [], ◌∷◌, ◌++◌, List-discrete}
 use Rattle.std.proofs.Math.Option.{Option, some, none}
 use Prim.Native.Nat.{ℕ, zero, suc, ◌+◌, ◌-◌, ◌≤◌, ◌<◌}
 use Rattle.std.proofs.Math.Decide.{dec_le, dec_lt, ℕ_discrete}
-use Rattle.words.specs.Cases.{clash}
+use Rattle.words.proofs.Cases.{clash}
 use Rattle.words.specs.Definitions.{stretch, prefix, Section, Joined, nothing, another, Ending, Sections, done, next, Split, lengths_back, Smaller, here, further, Before, Named}
 use Rattle.words.specs.Mirror.{stretch_length, stretch_join, ending?, section_ending, ending_section}
 use Rattle.words.specs.Computed.{cut_last, split_of, splits}

@@ -6,8 +6,8 @@ use mathlib.Core.List.{List, [], ◌∷◌, ◌++◌, Memᴰ}
 use Rattle.std.proofs.Math.Decide.{dec_lt}
 use Rattle.words.specs.Definitions.{LeastPeriod, Leading, NextLeading, next_leading, Falling, above, Follows, first, later, Visits}
 use Rattle.words.specs.Search.{largest_one}
-use Rattle.words.specs.Laws.{empty_leads}
-use Rattle.words.specs.Series.{next_is}
+use Rattle.words.proofs.Laws.{empty_leads}
+use Rattle.words.proofs.Series.{next_is}
 
 -- b is the largest entry below a, or 0 where there is none
 record NextEntry (s : List ℕ) (a b : ℕ) : Type 0 where

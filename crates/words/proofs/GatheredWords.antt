@@ -9,11 +9,11 @@ use Rattle.std.specs.Int.Bits.{bit_or}
 use Rattle.words.specs.Definitions.{prefix, Joined, LeastPeriod, LeadsFrom, LastLead, NextLeading, bit, RowWord, UnionTo, GatheredWord}
 use Rattle.words.specs.Search.{largest, largest_one, smallest_one}
 use Rattle.words.specs.Mirror.{single_ending}
-use Rattle.words.specs.Bits.{union_bit, same_bits}
+use Rattle.words.proofs.Bits.{union_bit, same_bits}
 use Rattle.words.specs.Computed.{leads_from?, least_period, row_word, join_steps, gathered_word}
-use Rattle.words.specs.Laws.{row_bit, row_past, least_period_lem, last_lead}
-use Rattle.words.specs.Series.{next_is}
-use Rattle.words.specs.Proposition3.{gathered_is, gathered_own}
+use Rattle.words.proofs.Laws.{row_bit, row_past, least_period_lem, last_lead}
+use Rattle.words.proofs.Series.{next_is}
+use Rattle.words.proofs.Proposition3.{gathered_is, gathered_own}
 
 -- Row words
 

@@ -10,10 +10,10 @@ use Rattle.words.specs.Definitions.{Ending, Mirrored, radius, Period, LeastPerio
 use Rattle.words.specs.Search.{largest, largest_eq, largest_as, passing_as}
 use Rattle.words.specs.Mirror.{mirror, ending, ending?, mirrored?}
 use Rattle.words.specs.Computed.{leading?, leads_from?, least_period, longest, next_ending, radius_at, visits, cut_last, split_of, splits, row_word, join_steps, later_places, gather_over, gathered, gathered_word}
-use Rattle.words.specs.Laws.{least_period_lem, last_lead}
-use Rattle.words.specs.Lengths.{places_end}
-use Rattle.words.specs.Bits.{bits_as}
-use Rattle.words.specs.Proposition3.{gather_over_is, gather_over_own}
+use Rattle.words.proofs.Laws.{least_period_lem, last_lead}
+use Rattle.words.proofs.Lengths.{places_end}
+use Rattle.words.proofs.Bits.{bits_as}
+use Rattle.words.proofs.Proposition3.{gather_over_is, gather_over_own}
 use Rattle.words.specs.Periods.{whole_period}
 
 -- the first n letters of w and v are the same

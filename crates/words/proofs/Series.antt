@@ -5,8 +5,8 @@ use Rattle.std.proofs.Math.Decide.{dec_le, dec_lt, ℕ_discrete}
 use Rattle.words.specs.Definitions.{Ending, LongestEnding, Period, LeastPeriod, Leading, NextLeading, next_leading}
 use Rattle.words.specs.Periods.{Into, ending_period, period_ending, shorter, whole_period, multiple, ending_into, window}
 use Rattle.words.specs.Computed.{least_period, later_places}
-use Rattle.words.specs.Laws.{least_period_lem}
-use Rattle.words.specs.Lengths.{places_end}
+use Rattle.words.proofs.Laws.{least_period_lem}
+use Rattle.words.proofs.Lengths.{places_end}
 
 module _ {w : ℕ → ℕ} {n : ℕ} where
   -- the longest ending leads

@@ -1,0 +1,14 @@
+-- the theory
+pub mod Laws
+pub mod Lengths
+pub mod Series
+pub mod FewVisits
+pub mod Visiting
+pub mod Proposition3
+pub mod Gathering
+pub mod Bits
+pub mod Cases
+pub mod Splits
+pub mod Rows
+pub mod GatheredWords
+pub mod Prefixes
