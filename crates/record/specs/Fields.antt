@@ -5,7 +5,7 @@ use Rattle.words.specs.Definitions.{stretch}
 use Rattle.words.specs.Mirror.{stretch_length}
 use Rattle.text.specs.Definitions.{comma, line_end, decimal}
 use Rattle.text.specs.Decimal.{most_digits}
-use Rattle.layout.specs.Record.{fields_of, behind_commas, laid_out, folded_of, record_of}
+use Rattle.layout.specs.Record.{fields_of, behind_commas, folded_of, record_of}
 use Rattle.layout.specs.WrittenLaws.{folded_count}
 
 -- One section, between the ends a and e: a comma, its length, a comma, its first half

@@ -22,6 +22,7 @@ use text::decimal::{digit_count, write_decimal};
 use text::{COMMA, LINE_END};
 
 // The count of bytes of the record of prefix i in the sections with these ends; whatever the letters are.
+#[tactic(auto, using(crate::specs::RecordCode::size_as))]
 pub fn record_size(i: Place, ends: &[u16]) -> usize
     requires { (i.0 ≤ most_picks) × (length ends.now ≤ most_sections) }
     ensures { (w : ℕ → ℕ) → result ≡ length (record_of w i.0 ends.now) }
@@ -53,6 +54,7 @@ fn write_fields(letters: &Letters, i: Place, ends: &[u16], output: &mut [u8])
 }
 
 // The record of prefix i in the sections with these ends, or the refusal that it is longer than the output.
+#[tactic(auto, using(crate::specs::RecordCode::refused_as, crate::specs::RecordCode::written_as))]
 pub fn write_record(letters: &Letters, i: Place, ends: &[u16], output: &mut [u8]) -> RecordAnswer
     requires { (i.0 ≤ most_picks) × (length ends.now ≤ most_sections) }
     ensures { reply (record_says result) output.new

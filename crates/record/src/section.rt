@@ -18,6 +18,7 @@ fn first_half(length: usize) -> usize
 }
 
 // The count of bytes of the section between the ends a and e.
+#[tactic(auto, using(crate::specs::RecordCode::section_size_as))]
 pub fn section_size(a: usize, e: usize) -> usize
     requires { e < 65536 }
     ensures { (result ≡ section_size a e) × (result ≤ most_section_size) }

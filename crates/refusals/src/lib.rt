@@ -123,12 +123,14 @@ pub fn first(a: u8, b: u8) -> u8
 
 // The calls
 
+#[tactic(auto, unfolding(promises::specs::Refusals::start_refusal))]
 pub fn start_refusal(k: u8) -> u8
     ensures { result ≡ start_refusal k }
 {
     line1(SECTIONS, k)
 }
 
+#[tactic(auto, using(promises::specs::RefusalLaws::feed_order))]
 pub fn feed_refusal(held: Numbers, pick: u8, entries: usize) -> u8
     ensures { result ≡ feed_refusal held.n held.k pick entries }
 {
@@ -139,6 +141,7 @@ pub fn feed_refusal(held: Numbers, pick: u8, entries: usize) -> u8
     first(state, first(letter, first(list, room)))
 }
 
+#[tactic(auto, using(promises::specs::RefusalLaws::mask_order))]
 pub fn mask_refusal(held: Numbers, i: Place) -> u8
     ensures { result ≡ mask_refusal held.n held.k i.0 }
 {
@@ -157,6 +160,7 @@ fn last_centre(n: usize) -> usize
     0
 }
 
+#[tactic(auto, using(promises::specs::RefusalLaws::centre_order))]
 pub fn centre_refusal(held: Numbers, c: Centre) -> u8
     ensures { result ≡ centre_refusal held.n held.k c.0 }
 {
@@ -165,12 +169,14 @@ pub fn centre_refusal(held: Numbers, c: Centre) -> u8
     first(state, centre)
 }
 
+#[tactic(auto, unfolding(promises::specs::Refusals::longest_refusal))]
 pub fn longest_refusal(held: Numbers) -> u8
     ensures { result ≡ longest_refusal held.n held.k }
 {
     line7(held.n, held.k)
 }
 
+#[tactic(auto, using(promises::specs::RefusalLaws::split_order))]
 pub fn split_refusal(held: Numbers, i: Place, k: u8, entries: usize) -> u8
     ensures { result ≡ split_refusal held.n held.k i.0 k entries }
 {
@@ -181,6 +187,7 @@ pub fn split_refusal(held: Numbers, i: Place, k: u8, entries: usize) -> u8
     first(state, first(sections, first(list, prefix)))
 }
 
+#[tactic(auto, using(promises::specs::RefusalLaws::record_order))]
 pub fn record_refusal(held: Numbers, i: Place, k: u8) -> u8
     ensures { result ≡ record_refusal held.n held.k i.0 k }
 {
@@ -191,6 +198,7 @@ pub fn record_refusal(held: Numbers, i: Place, k: u8) -> u8
 }
 
 // Of a lift, a mark and going back: 7 and 2.
+#[tactic(auto, using(promises::specs::RefusalLaws::letter_order))]
 pub fn letter_refusal(held: Numbers, letter: u8) -> u8
     ensures { result ≡ letter_refusal held.n held.k letter }
 {
