@@ -1,4 +1,5 @@
 -- the theory
+pub mod Mirrored
 pub mod Laws
 pub mod Lengths
 pub mod Series
