@@ -36,7 +36,7 @@ module _ (l : List ℕ) (s : Scan) (phase b : ℕ) where
 
 -- One byte
 
-fills_byte : {o o' : Option State} (l₀ l : List ℕ) (b i : ℕ) → Reads i b o o' → Fills l₀ o l
+fills_byte : (l₀ l : List ℕ) (b i : ℕ) {o o' : Option State} → Reads i b o o' → Fills l₀ o l
     → Fills l₀ o' (put l (numbers_of o) (numbers_of o').phase b)
 unfolding put picks_of
 fills_byte l₀ l b i (stuck {o = o}) h = ap length (sym (put_behind l (numbers_of o) at_break b (λ y. omega arith))) ∙ fills_length l₀ l o h

@@ -101,7 +101,7 @@ module _ (at i p c from : ℕ) (fs : List Folded) (f : Folded) (found : Found)
 
 -- One byte
 
-tracks_byte : {o o' : Option State} (at b i : ℕ) (found : Found) (from : ℕ) → Reads i b o o' → Tracks at o found from
+tracks_byte : (at b i : ℕ) (found : Found) (from : ℕ) {o o' : Option State} → Reads i b o o' → Tracks at o found from
     → Tracks at o' (noted found (numbers_of o) (numbers_of o').phase at from (i + 1))
     (begun from (numbers_of o).phase (numbers_of o').phase (i + 1))
 unfolding noted begun bytes_to among

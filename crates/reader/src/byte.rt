@@ -10,6 +10,7 @@ use text::{COMMA, DIGIT_ZERO};
 
 const DIGIT_NINE: u8 = 57;
 
+#[tactic(auto, unfolding(layout::specs::Reading::is_digit))]
 pub fn is_digit(b: u8) -> bool
     ensures { result ≡ is_digit b }
 {
@@ -19,6 +20,7 @@ pub fn is_digit(b: u8) -> bool
     b <= DIGIT_NINE
 }
 
+#[tactic(auto, unfolding(layout::specs::Reading::is_letter))]
 pub fn is_letter(b: u8) -> bool
     ensures { result ≡ is_letter b }
 {

@@ -32,7 +32,7 @@ fn reached(phase: u8, stop: usize, i: usize) -> usize
     if phase == BROKEN { stop } else { i }
 }
 
-#[derive(Drop)]
+#[derive(Clone, Copy)]
 pub struct Scanned {
     pub scan: Scan,
     pub stop: usize,
@@ -53,6 +53,7 @@ fn scan(bytes: &[u8]) -> Scanned
 }
 
 // Whether a digit stands at a place behind a digit.
+#[tactic(auto, unfolding(crate::specs::CheckCode::follows))]
 fn follows(bytes: &[u8], i: usize) -> bool
     requires { 0 < i }
     ensures { result ≡ follows bytes.now i }
@@ -79,7 +80,7 @@ fn number_at(bytes: &[u8], place: usize) -> usize
 }
 
 // A record's number, 0 where 11 and 12 let it pass; with 11 its place, with 0 the count of its picks.
-#[derive(Drop)]
+#[derive(Clone, Copy)]
 pub struct Checked {
     pub number: u8,
     pub place: usize,

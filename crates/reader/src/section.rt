@@ -12,6 +12,7 @@ use cells::{Place, byte_at};
 use layout::{Found, Section, Turn, Yielded};
 
 // The middle of a section of len picks after the first a.
+#[tactic(auto, unfolding(layout::specs::Yield::turn_of))]
 fn turn_of(a: usize, len: usize) -> Turn
     requires { (a ≤ most_sections * most_picks) × (len ≤ most_picks) }
     ensures { result ≡ turn_of a len }
@@ -22,6 +23,7 @@ fn turn_of(a: usize, len: usize) -> Turn
     Turn::Between(Place(a + len / 2))
 }
 
+#[tactic(auto, unfolding(layout::specs::Yield::section_after))]
 fn section_after(a: usize, len: usize) -> Section
     requires { (a ≤ most_sections * most_picks) × (len ≤ most_picks) }
     ensures { result ≡ section_after a len }
@@ -63,6 +65,7 @@ fn sought(at: usize, from: usize, whole: usize) -> bool
 }
 
 // What is found after a step from s to a phase: the section that it completes, where that is sought.
+#[tactic(auto, unfolding(crate::specs::SectionCode::noted))]
 fn noted(found: Found, s: Scan, phase: u8, at: usize, from: usize, next: usize) -> Found
     requires { Small s }
     ensures { result ≡ noted found s phase at from next }
@@ -80,6 +83,7 @@ fn noted(found: Found, s: Scan, phase: u8, at: usize, from: usize, next: usize) 
 }
 
 // The first byte of the section being read, after a step from one phase to another.
+#[tactic(auto, unfolding(crate::specs::SectionCode::begun))]
 fn begun(from: usize, a: u8, b: u8, next: usize) -> usize
     ensures { result ≡ begun from a b next }
 {
@@ -93,6 +97,7 @@ fn begun(from: usize, a: u8, b: u8, next: usize) -> usize
 }
 
 // What was found counts only in a record that 11 and 12 let pass.
+#[tactic(auto, unfolding(crate::specs::SectionCode::settled))]
 fn settled(s: Scan, found: Found, at: usize) -> Found
     ensures { result ≡ settled s found at }
 {

@@ -20,7 +20,7 @@ pub const CLOSED: u8 = 4;
 
 pub const BROKEN: u8 = 5;
 
-#[derive(Drop)]
+#[derive(Clone, Copy)]
 pub struct Scan {
     pub phase: u8,
     // The picks and the sections that the record says.
@@ -49,6 +49,7 @@ fn broken() -> Scan
 }
 
 // The largest number that the field may hold.
+#[tactic(auto, unfolding(crate::specs::Numbers::most_of))]
 fn most_of(phase: u8) -> usize
     ensures { result ≡ most_of phase }
 {
@@ -56,6 +57,7 @@ fn most_of(phase: u8) -> usize
 }
 
 // A number ended: the picks, the count of sections, or a section's length.
+#[tactic(auto, unfolding(crate::specs::Numbers::next_field))]
 fn next_field(s: Scan) -> Scan
     ensures { result ≡ next_field s }
 {
@@ -92,6 +94,7 @@ fn next_field(s: Scan) -> Scan
     }
 }
 
+#[tactic(auto, unfolding(crate::specs::Numbers::step_number))]
 fn step_number(s: Scan, b: u8) -> Scan
     requires { s.number ≤ most_picks }
     ensures { result ≡ step_number s b }
@@ -118,6 +121,7 @@ fn step_number(s: Scan, b: u8) -> Scan
 }
 
 // A half ended: a comma where a section is to come, the end of the line where none is.
+#[tactic(auto, unfolding(crate::specs::Numbers::next_section))]
 fn next_section(s: Scan, b: u8) -> Scan
     requires { Small s }
     ensures { result ≡ next_section s b }
@@ -152,6 +156,7 @@ fn next_section(s: Scan, b: u8) -> Scan
     broken()
 }
 
+#[tactic(auto, unfolding(crate::specs::Numbers::step_letter))]
 fn step_letter(s: Scan, b: u8) -> Scan
     requires { Small s }
     ensures { result ≡ step_letter s b }
@@ -173,6 +178,7 @@ fn step_letter(s: Scan, b: u8) -> Scan
     next_section(s, b)
 }
 
+#[tactic(auto, unfolding(crate::specs::Numbers::stepped))]
 pub fn step(s: Scan, b: u8) -> Scan
     requires { Small s }
     ensures { result ≡ stepped s b }

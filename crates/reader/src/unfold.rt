@@ -11,6 +11,7 @@ use cells::{byte_at, minus, store_byte};
 use promises::{NO_RECORD, TOO_LONG, UnfoldAnswer};
 
 // The stores of a step from s to a phase by the byte b.
+#[tactic(auto, unfolding(crate::specs::Filling::put))]
 fn put(picks: &mut [u8], s: Scan, phase: u8, b: u8)
     requires { Small s }
     ensures { picks.new ≡ put picks.old s phase b }
