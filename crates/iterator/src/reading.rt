@@ -60,7 +60,7 @@ pub fn period_at(next: &ByCentre, c: Centre, len: usize) -> usize
 }
 
 // Of an ending the centre of the next shorter one, its own length and its own least period; or that there is no such ending.
-#[derive(Drop)]
+#[derive(Clone, Copy)]
 pub enum Shorter {
     At(Centre, usize, usize),
     Missing,

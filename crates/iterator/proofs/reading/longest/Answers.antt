@@ -1,0 +1,5 @@
+use Rattle.models.specs.Answers.{longest_promised}
+use Rattle.iterator.proofs.reading.longest.Goals as goal
+
+pub returns : goal.returns
+returns c = longest_promised _ _ _ c.within.ensures
