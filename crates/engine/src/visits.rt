@@ -30,7 +30,7 @@ fn period_of(next: &ByCentre, n: usize, len: usize) -> usize
 }
 
 // The gathered word of the place before a leading ending, and the length of the next.
-#[derive(Drop)]
+#[derive(Clone, Copy)]
 struct Mended {
     word: u16,
     next: usize,
@@ -63,7 +63,7 @@ fn visit(next: &ByCentre, places: &mut Places, n: usize, len: usize) -> Mended
 }
 
 // The union of the visited places' gathered words, and how many they are.
-#[derive(Drop)]
+#[derive(Clone, Copy)]
 pub struct Visited {
     pub union: u16,
     pub count: usize,
