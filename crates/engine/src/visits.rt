@@ -21,6 +21,7 @@ fn centre_of(n: usize, len: usize) -> Centre
 }
 
 // The least period of the ending of length len.
+#[tactic(auto, unfolding(models::specs::Engine::period_of))]
 fn period_of(next: &ByCentre, n: usize, len: usize) -> usize
     requires { (n ≤ most_picks) × (0 < len) × (len ≤ n) }
     ensures value { result ≡ period_of next.now n len }

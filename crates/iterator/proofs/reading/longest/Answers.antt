@@ -1,5 +1,0 @@
-use Rattle.models.specs.Answers.{longest_promised}
-use Rattle.iterator.proofs.reading.longest.Goals as goal
-
-pub returns : goal.returns
-returns c = longest_promised _ _ _ c.within.ensures
