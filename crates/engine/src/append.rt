@@ -8,7 +8,7 @@ use crate::step::step;
 use cells::{Centre, Centres, Letters, NEXT, Numbers, Places};
 
 // What one pick more gives beside the arrays: its row word, the count of its visits, the centre of the longest ending.
-#[derive(Drop)]
+#[derive(Clone, Copy)]
 pub struct Appended {
     pub row: u16,
     pub count: usize,

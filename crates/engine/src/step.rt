@@ -37,7 +37,7 @@ fn raised(word: u16, k: usize) -> u16
 }
 
 // The row word of the new place, and how many places were visited for it.
-#[derive(Drop)]
+#[derive(Clone, Copy)]
 pub struct NewRow {
     pub row: u16,
     pub count: usize,

@@ -21,6 +21,7 @@ fn centre_of(n: usize, len: usize) -> Centre
 }
 
 // The least period of the ending of length len.
+#[tactic(auto, unfolding(models::specs::Engine::period_of))]
 fn period_of(next: &ByCentre, n: usize, len: usize) -> usize
     requires { (n ≤ most_picks) × (0 < len) × (len ≤ n) }
     ensures value { result ≡ period_of next.now n len }
@@ -30,7 +31,7 @@ fn period_of(next: &ByCentre, n: usize, len: usize) -> usize
 }
 
 // The gathered word of the place before a leading ending, and the length of the next.
-#[derive(Drop)]
+#[derive(Clone, Copy)]
 struct Mended {
     word: u16,
     next: usize,
@@ -63,7 +64,7 @@ fn visit(next: &ByCentre, places: &mut Places, n: usize, len: usize) -> Mended
 }
 
 // The union of the visited places' gathered words, and how many they are.
-#[derive(Drop)]
+#[derive(Clone, Copy)]
 pub struct Visited {
     pub union: u16,
     pub count: usize,

@@ -10,6 +10,7 @@ use crate::reflection::reflected_radius;
 use cells::{ByCentre, Centre, at_centre, centre_entry, minus, wide, within};
 
 // The centre of the longest ending, the paper's maxPal: the stored one, brought into range.
+#[tactic(auto, using(models::specs::Answers::longest_promised))]
 pub fn longest(n: usize, stored: Centre) -> Centre
     requires { n ≤ most_picks }
     ensures { LongestIs n stored.0 result.0 }
@@ -28,6 +29,7 @@ fn radius_from(radius: &ByCentre, n: usize, s: Centre, c: Centre) -> usize
 }
 
 // The radius of the longest mirrored stretch at c, the paper's rad.
+#[tactic(auto, using(models::specs::Answers::radius_promised))]
 pub fn radius_at(radius: &ByCentre, n: usize, stored: Centre, c: Centre) -> usize
     requires { n ≤ most_picks }
     ensures { RadiusIs radius.now n stored.0 c.0 result }
@@ -60,7 +62,7 @@ pub fn period_at(next: &ByCentre, c: Centre, len: usize) -> usize
 }
 
 // Of an ending the centre of the next shorter one, its own length and its own least period; or that there is no such ending.
-#[derive(Drop)]
+#[derive(Clone, Copy)]
 pub enum Shorter {
     At(Centre, usize, usize),
     Missing,

@@ -41,7 +41,7 @@ fn starts_at(rows: &ByPlace, radius: &ByCentre, held: Numbers, k: u8, i: Place, 
 }
 
 // Where a last section starts, or that none does.
-#[derive(Drop)]
+#[derive(Clone, Copy)]
 pub enum First {
     At(Place),
     Missing,

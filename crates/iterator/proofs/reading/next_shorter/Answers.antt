@@ -1,0 +1,18 @@
+use Rattle.std.proofs.Common.{sym, ◌∙◌}
+use Rattle.models.specs.Answers.{next_promised}
+use Rattle.models.specs.IteratorCode.{next_there, next_missing}
+use Rattle.iterator.proofs.reading.next_shorter.Goals as goal
+
+pub returns-then-is_ending : goal.returns-then-is_ending
+returns-then-is_ending c =
+    let p = c.args in
+    next_promised p.radius.now p.next.now p.n p.stored.0 p.c.0 _
+    (next_there p.radius.now p.next.now p.n p.stored.0 c.longest.result.0 p.c.0 c.period_at-period.result
+    c.longest.ensures.computes (sym c.is_ending.ensures ∙ c.if-is_ending.true) c.period_at-period.ensures)
+
+pub returns : goal.returns
+returns c =
+    let p = c.args in
+    next_promised p.radius.now p.next.now p.n p.stored.0 p.c.0 _
+    (next_missing p.radius.now p.next.now p.n p.stored.0 c.longest.result.0 p.c.0 c.longest.ensures.computes
+    (sym c.is_ending.ensures ∙ c.if-is_ending.false))
