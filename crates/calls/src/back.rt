@@ -6,8 +6,8 @@ ghost use Rattle.cells.specs.Lanes.{by_centre, by_place};
 ghost use Rattle.models.specs.Core.{arrays_in};
 ghost use Rattle.promises.specs.Lifts.{lifted_by};
 ghost use Rattle.promises.specs.State.{draft_in};
-ghost use Rattle.promises.specs.MarkLaws.{keep_to};
-ghost use Rattle.promises.specs.BackLaws.{append_all};
+ghost use Rattle.promises.specs.Marks.{keep_to};
+ghost use Rattle.promises.specs.State.{append_all};
 ghost use Rattle.promises.specs.Promises.{BackPromise};
 ghost use Rattle.promises.specs.Lent.{marked_as};
 

@@ -19,11 +19,11 @@ use Rattle.promises.specs.Answers.{Said, gave, refused, refused_at, feed_says}
 use Rattle.promises.specs.Refusals.{start_refusal, feed_refusal}
 use Rattle.promises.specs.Book.{Book, fed_book, feed, lent, write, fed_lifted}
 use Rattle.promises.specs.Replies.{refusal_of, found_for, reply_to}
-use Rattle.promises.specs.BookLaws.{Case, taken, left, unless_zero, unless_not}
+use Rattle.promises.proofs.BookLaws.{Case, taken, left, unless_zero, unless_not}
 use Rattle.words.specs.Ranges.{between, between_true}
 use Rattle.promises.specs.State.{numbers_of, with_pick}
 use Rattle.promises.specs.Holds.{Holds}
-use Rattle.promises.specs.WritingLaws.{held_picks, feed_case, start_holds}
+use Rattle.promises.proofs.WritingLaws.{held_picks, feed_case, start_holds}
 use Rattle.promises.specs.Promises.{StartPromise, FeedPromise}
 use Rattle.promises.specs.Lent.{fed_as}
 use Rattle.calls.specs.declared.feed.Step.{Step}

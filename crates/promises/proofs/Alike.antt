@@ -8,14 +8,14 @@ use Rattle.words.specs.Definitions.{word, first_letter}
 use Rattle.words.specs.Computed.{longest_centre, next_after, radius_at, visits, split_of}
 use Rattle.words.specs.Computed.{mask as mask_of}
 use Rattle.layout.specs.Layout.{Every, none, more, Letter}
-use Rattle.layout.specs.Entries.{every_at, every_snoc}
+use Rattle.layout.proofs.Entries.{every_at, every_snoc}
 use Rattle.promises.specs.Answers.{reply}
 use Rattle.promises.specs.Lifts.{table_size, lift_in, lifted_by, Distinct}
-use Rattle.promises.specs.LiftLaws.{lifted_length, lifted_at}
+use Rattle.promises.proofs.LiftLaws.{lifted_length, lifted_at}
 use Rattle.promises.specs.Book.{Book, Call, start, feed, load, mark, back, ask, split, longest, mask, radius, next, fold, lift, blank, lent, lifted, fed_row, book_of}
 use Rattle.promises.specs.Replies.{or_no_ending, gives, fed_reply, split_reply, record_reply, refusal_of, refusal_to, found_for, reply_to}
-use Rattle.promises.specs.RefusalLaws.{feed_fits, mask_fits, record_fits, split_fits}
-use Rattle.promises.specs.BookLaws.{said_as}
+use Rattle.promises.proofs.RefusalLaws.{feed_fits, mask_fits, record_fits, split_fits}
+use Rattle.promises.proofs.BookLaws.{said_as}
 use Rattle.promises.specs.Runs.{call_of, calls}
 use Rattle.promises.specs.Alike.{Alike, with_table, NoLift, AlikeHolds, alphabet, ReadAsLetters, ByLettersHolds}
 use Rattle.promises.proofs.LikeWords.{Like, visits_like, longest_like, radius_like, next_like, splits_like, mask_like}

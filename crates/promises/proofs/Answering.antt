@@ -10,7 +10,7 @@ use Rattle.promises.specs.Book.{Book, Call, start, feed, load, mark, back, ask, 
 use Rattle.promises.specs.Replies.{unless_said, refusal_to, found_for, reply_to}
 use Rattle.promises.specs.Listed.{Line, First, NoneMet, listed, sought, lines}
 use Rattle.promises.specs.Says.{Says}
-use Rattle.promises.specs.BookLaws.{said_zero, said_not, refusal_under}
+use Rattle.promises.proofs.BookLaws.{said_zero, said_not, refusal_under}
 use Rattle.promises.specs.Demands.{Accepted, NoneListed, PlaceOf, Late, Answered}
 use Rattle.promises.proofs.Listing.{Tested, hit, clear, first_one, first_none, first_front, first_behind, none_both, Others, first_past}
 use Rattle.promises.proofs.Finding.{Outcome, under, fine}

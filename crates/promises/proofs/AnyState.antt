@@ -23,7 +23,7 @@ use Rattle.promises.specs.Answers.{refused, Reply, reply}
 use Rattle.promises.specs.Book.{Query, ask, split, longest, mask, radius, next, fold, lift, lent}
 use Rattle.promises.specs.Replies.{unless, or_no_split, or_no_ending, or_too_long, gives, split_reply, record_reply, refusal_of}
 use Rattle.promises.specs.State.{numbers_of}
-use Rattle.promises.specs.BookLaws.{unless_zero, unless_not}
+use Rattle.promises.proofs.BookLaws.{unless_zero, unless_not}
 use Rattle.promises.specs.Promises.{mask_byte, split_held, found_in, computed_to, Reads}
 use Rattle.promises.specs.Demands.{Accepted, NextRight, NextHolds, EndsRight, SplitHolds, RecordRight, RecordHolds, LongestHolds}
 use Rattle.promises.specs.Unread.{prefixes_to, rows_to, parts_for, state_from, reply_from, PartsHold, other_rows, SplitAlike}

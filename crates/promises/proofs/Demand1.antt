@@ -24,8 +24,8 @@ use Rattle.promises.specs.Book.{Book, Query, Call, start, feed, load, mark, back
 use Rattle.promises.specs.Replies.{unless_said, or_no_mark, or_fifth_name, gives, refusal_of, refusal_to, found_for, reply_to, section_of, shown, shown_behind}
 use Rattle.promises.specs.Listed.{Line, First, NoneMet, listed, sought, show_lines}
 use Rattle.promises.specs.Says.{PartOf}
-use Rattle.promises.specs.BookLaws.{said_zero, said_not, unless_zero, unless_not, refusal_under}
-use Rattle.promises.specs.ShowLaws.{part_fits}
+use Rattle.promises.proofs.BookLaws.{said_zero, said_not, unless_zero, unless_not, refusal_under}
+use Rattle.promises.proofs.ShowLaws.{part_fits}
 use Rattle.promises.specs.State.{arrays_of, code_in, marks_of}
 use Rattle.promises.specs.Promises.{mask_byte, found_in, computed_to, StartPromise, FeedPromise, LoadPromise, MarkPromise, BackPromise, Reads, ShowPromise}
 use Rattle.promises.specs.Runs.{Made, started, fed, loaded, marked, returned, asked, call_of, calls, reply_of, Meets, leaves}

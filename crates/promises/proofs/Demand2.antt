@@ -12,11 +12,11 @@ use Rattle.promises.specs.Answers.{gave, Reply}
 use Rattle.promises.specs.Refusals.{mask_refusal}
 use Rattle.promises.specs.Book.{Book, mask, lent, lifted, fed_row, fed_lifted, book_of}
 use Rattle.promises.specs.Replies.{refusal_of, fed_mask, found_for, reply_to}
-use Rattle.promises.specs.LiftLaws.{lifted_length}
-use Rattle.promises.specs.BookLaws.{passes7, unless_zero}
+use Rattle.promises.proofs.LiftLaws.{lifted_length}
+use Rattle.promises.proofs.BookLaws.{passes7, unless_zero}
 use Rattle.promises.specs.Holds.{Holds}
 use Rattle.promises.specs.Promises.{Reads}
-use Rattle.promises.specs.WritingLaws.{held_fits}
+use Rattle.promises.proofs.WritingLaws.{held_fits}
 use Rattle.promises.specs.Runs.{started, calls}
 use Rattle.promises.specs.Demands.{lifted_of, Demand2Holds}
 use Rattle.promises.specs.Says.{Yes}

@@ -28,13 +28,13 @@ use Rattle.promises.specs.declared.Marked.{Marked}
 use Rattle.promises.specs.Answers.{Said, gave, refused, refused_at, Under, Reply, reply, start_says, feed_says, load_says, mark_says}
 use Rattle.promises.specs.Refusals.{start_refusal, load_refusal, split_refusal, centre_refusal, longest_refusal}
 use Rattle.promises.specs.Lifts.{lift_in}
-use Rattle.promises.specs.LiftLaws.{lifted_length, lifted_more}
+use Rattle.promises.proofs.LiftLaws.{lifted_length, lifted_more}
 use Rattle.promises.specs.Marks.{mark_at, is_mark, room_for}
 use Rattle.promises.specs.Book.{Book, load, blank, split, longest, next, lent, lifted, fed_row, fed_lifted, start_taken, load_taken, mark_taken, back_taken}
 use Rattle.promises.specs.Replies.{unless, or_no_split, or_no_ending, or_refused, split_reply, refusal_of, found_for, reply_to}
-use Rattle.promises.specs.BookLaws.{Case, taken, left, start_cases, passes7, unless_zero, unless_not, refusal_under}
-use Rattle.promises.specs.WritingLaws.{held_fits, load_number, load_case}
-use Rattle.promises.specs.MarkingLaws.{letter_case}
+use Rattle.promises.proofs.BookLaws.{Case, taken, left, start_cases, passes7, unless_zero, unless_not, refusal_under}
+use Rattle.promises.proofs.WritingLaws.{held_fits, load_number, load_case}
+use Rattle.promises.proofs.MarkingLaws.{letter_case}
 use Rattle.promises.specs.State.{arrays_of}
 use Rattle.promises.specs.Holds.{Holds}
 use Rattle.promises.specs.Promises.{StartPromise, FeedPromise, LoadPromise, MarkPromise, BackPromise, Reads}

@@ -18,7 +18,7 @@ use Rattle.promises.specs.Lifts.{fixed_lifts, lifted_by}
 use Rattle.promises.specs.Replies.{or_no_split, split_reply, refusal_of, fed_visits, found_for, reply_to}
 use Rattle.promises.specs.Marks.{Marks, no_marks}
 use Rattle.promises.specs.Book.{book, Call, lent, feed_taken, write, write_all}
-use Rattle.promises.specs.BookLaws.{unless_zero}
+use Rattle.promises.proofs.BookLaws.{unless_zero}
 use Rattle.promises.specs.Drafts.{Question, mask, visits, moved, split_in, radius_at, Row, table, row_for, book_for, last_pick, call_for, entries, reply_with, Right, Means, Feeds, no_feed, one_more, Kept}
 use Rattle.promises.specs.Demands.{Answered}
 use Rattle.promises.proofs.Answering.{answered}

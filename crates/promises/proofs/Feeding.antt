@@ -16,9 +16,9 @@ use Rattle.promises.specs.Refusals.{feed_refusal}
 use Rattle.words.specs.Ranges.{between}
 use Rattle.promises.specs.Book.{Book, fed_book, lent, feed_taken, write}
 use Rattle.promises.specs.Replies.{unless, fed_reply, fed_mask, fed_visits, refusal_of, found_for, reply_to}
-use Rattle.promises.specs.BookLaws.{Case, taken, left, unless_zero, unless_not}
+use Rattle.promises.proofs.BookLaws.{Case, taken, left, unless_zero, unless_not}
 use Rattle.promises.specs.Holds.{Holds}
-use Rattle.promises.specs.WritingLaws.{feed_case}
+use Rattle.promises.proofs.WritingLaws.{feed_case}
 use Rattle.promises.specs.Promises.{FeedPromise}
 use Rattle.promises.specs.Demands.{Accepted}
 use Rattle.promises.proofs.Keeping.{gave_accepted, said_is, list_is}

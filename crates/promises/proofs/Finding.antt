@@ -23,7 +23,7 @@ use Rattle.layout.specs.Record.{record_of}
 use Rattle.promises.specs.Marks.{Marks, most_marks, mark_at, is_mark, how_many, room_for}
 use Rattle.promises.specs.Book.{Book, Call, mark, back, ask, lent, lifted, split, next, fold}
 use Rattle.promises.specs.Replies.{or_no_split, or_no_ending, or_too_long, or_refused, or_no_mark, or_fifth_name, gives, split_reply, record_reply, refusal_to}
-use Rattle.promises.specs.LiftLaws.{lifted_length}
+use Rattle.promises.proofs.LiftLaws.{lifted_length}
 use Rattle.promises.specs.Listed.{Line, First, NoneMet, Outside, record_longer, no_split, no_ending, no_such_mark, fifth_name}
 use Rattle.promises.specs.Says.{Yes, RadiusSays, Says}
 use Rattle.promises.specs.Demands.{Accepted}

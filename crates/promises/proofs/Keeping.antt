@@ -11,7 +11,7 @@ use Rattle.words.proofs.Cases.{clash, true_false}
 use Rattle.words.specs.Definitions.{most_picks, most_sections, most_visits, first_letter, last_letter}
 use Rattle.words.specs.Ranges.{between, between_true}
 use Rattle.layout.specs.Layout.{Every, none, Letter}
-use Rattle.layout.specs.Entries.{every_snoc, every_take}
+use Rattle.layout.proofs.Entries.{every_snoc, every_take}
 use Rattle.promises.specs.declared.Draft.{Draft}
 use Rattle.promises.specs.declared.Started.{Started}
 use Rattle.promises.specs.declared.Fed.{Fed}
@@ -22,9 +22,9 @@ use Rattle.promises.specs.Refusals.{start_refusal}
 use Rattle.promises.specs.Marks.{mark_at, mark_length}
 use Rattle.promises.specs.Book.{Book, started_book, fed_book, loaded_book, marked_book, back_book, Call, start, feed, load, mark, back, ask, blank, start_taken, feed_taken, load_taken, mark_taken, back_taken, write, write_all, book_of}
 use Rattle.promises.specs.Replies.{reply_to, replies}
-use Rattle.promises.specs.BookLaws.{Case, taken, left, start_cases}
+use Rattle.promises.proofs.BookLaws.{Case, taken, left, start_cases}
 use Rattle.promises.specs.Holds.{Holds}
-use Rattle.promises.specs.WritingLaws.{start_holds}
+use Rattle.promises.proofs.WritingLaws.{start_holds}
 use Rattle.promises.specs.Promises.{StartPromise, FeedPromise, LoadPromise, MarkPromise, BackPromise}
 use Rattle.promises.specs.Runs.{Made, started, fed, loaded, marked, returned, asked, call_of, calls, reply_of, Meets, leaves, Run, last}
 use Rattle.promises.specs.Demands.{Opened, Accepted, FeedAmong}

@@ -20,3 +20,13 @@ pub mod LiftExamples
 pub mod MarkExamples
 pub mod LikeWords
 pub mod Alike
+pub mod LiftLaws
+pub mod MarkLaws
+pub mod RefusalLaws
+pub mod BookLaws
+pub mod WritingLaws
+pub mod BackLaws
+pub mod MarkingLaws
+pub mod ReadingLaws
+pub mod LentLaws
+pub mod ShowLaws

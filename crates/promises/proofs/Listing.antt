@@ -12,7 +12,7 @@ use borrow.Author.Tests.{leb-true, ltb-true, eqb-true, le-leb, lt-ltb, eq-eqb}
 use Rattle.words.specs.Definitions.{most_picks, most_sections}
 use Rattle.words.specs.Computed.{rising?}
 use Rattle.promises.specs.Lifts.{none_zero, first_zero}
-use Rattle.promises.specs.LiftLaws.{zero_there, zero_nowhere}
+use Rattle.promises.proofs.LiftLaws.{zero_there, zero_nowhere}
 use Rattle.promises.specs.Refusals.{test, line4, line6, line7, line8, line15, show_refusal}
 use Rattle.words.proofs.Cases.{true_false}
 use Rattle.words.specs.Ranges.{between, between_true}

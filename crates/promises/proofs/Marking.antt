@@ -19,12 +19,12 @@ use Rattle.promises.specs.declared.Marked.{Marked}
 use Rattle.promises.specs.Answers.{gave, refused, mark_says}
 use Rattle.promises.specs.Lifts.{table_size}
 use Rattle.promises.specs.Marks.{most_marks, mark_at, is_mark, mark_length, how_many, room_for, up_to}
-use Rattle.promises.specs.MarkLaws.{AtMost, most_none, most_set, most_drop, set_few, drop_few, kept_mark}
+use Rattle.promises.proofs.MarkLaws.{AtMost, most_none, most_set, most_drop, set_few, drop_few, kept_mark}
 use Rattle.promises.specs.Book.{Book, started_book, fed_book, loaded_book, marked_book, back_book, Call, start, feed, load, mark, back, ask, blank, start_taken, feed_taken, load_taken, mark_taken, back_taken, write, write_all, book_of}
 use Rattle.promises.specs.Replies.{or_refused, refusal_of}
 use Rattle.promises.specs.Listed.{Line, First, NoneMet, no_such_mark, fifth_name, listed}
-use Rattle.promises.specs.BookLaws.{unless_zero, unless_not}
-use Rattle.promises.specs.BackLaws.{held_marks, cut_state}
+use Rattle.promises.proofs.BookLaws.{unless_zero, unless_not}
+use Rattle.promises.proofs.BackLaws.{held_marks, cut_state}
 use Rattle.promises.specs.State.{marks_of, cut_to}
 use Rattle.promises.specs.Promises.{Marking}
 use Rattle.promises.specs.Runs.{started, calls, last}

@@ -10,7 +10,7 @@ use borrow.Author.Tests.{eqb-true, eq-eqb}
 use Rattle.words.proofs.Cases.{clash, true_false}
 use Rattle.promises.specs.Answers.{Said, refused, refused_at, Under}
 use Rattle.promises.specs.Lifts.{first_zero, FirstZero}
-use Rattle.promises.specs.LiftLaws.{first_is}
+use Rattle.promises.proofs.LiftLaws.{first_is}
 use Rattle.promises.specs.Book.{Call, start, feed, load, mark, back, ask}
 use Rattle.promises.specs.Replies.{refusal_to}
 use Rattle.promises.specs.Listed.{First, listed}

@@ -20,22 +20,22 @@ use Rattle.layout.specs.Record.{Folded, folded_of, record_of}
 use Rattle.layout.specs.Layout.{Every, none, more, Letter, total, Passes}
 use Rattle.layout.specs.Unfolding.{unfolded, picks_of}
 use Rattle.layout.specs.Yield.{section_after, yield_at, sections_in}
-use Rattle.layout.specs.Entries.{every_at}
-use Rattle.layout.specs.ReadingLaws.{laid_law}
-use Rattle.layout.specs.UnfoldLaws.{unfold_law}
-use Rattle.layout.specs.WrittenLaws.{folded_count, every_stretch, written_law, back_law}
-use Rattle.layout.specs.YieldLaws.{yields_law, yields_none}
+use Rattle.layout.proofs.Entries.{every_at}
+use Rattle.layout.proofs.ReadingLaws.{laid_law}
+use Rattle.layout.proofs.UnfoldLaws.{unfold_law}
+use Rattle.layout.proofs.WrittenLaws.{folded_count, every_stretch, written_law, back_law}
+use Rattle.layout.proofs.YieldLaws.{yields_law, yields_none}
 use Rattle.promises.specs.Answers.{gave, Reply, reply, filled, turn_numbers, yielded_numbers}
 use Rattle.promises.specs.Refusals.{unfold_refusal}
 use Rattle.promises.specs.Lifts.{lift_in, lifted_by, Distinct}
-use Rattle.promises.specs.LiftLaws.{lifted_at}
+use Rattle.promises.proofs.LiftLaws.{lifted_at}
 use Rattle.promises.specs.Book.{Book, ask, fold, blank, lifted, book_of}
 use Rattle.promises.specs.Replies.{unfolded_to, unfold_reply}
 use Rattle.promises.specs.Listed.{NoneMet, listed, sought}
 use Rattle.promises.specs.Says.{RecordSays, Says}
 use Rattle.promises.specs.Promises.{Reads}
-use Rattle.promises.specs.BookLaws.{unless_zero}
-use Rattle.promises.specs.WritingLaws.{held_fits}
+use Rattle.promises.proofs.BookLaws.{unless_zero}
+use Rattle.promises.proofs.WritingLaws.{held_fits}
 use Rattle.promises.specs.Runs.{started, calls, last}
 use Rattle.promises.specs.Demands.{Answered}
 use Rattle.promises.specs.ReadBack.{SectionIs, SectionsHold, ReadsBack, ReadBackHolds}

@@ -13,16 +13,16 @@ use Rattle.promises.specs.declared.Fed.{Fed}
 use Rattle.promises.specs.declared.Loaded.{Loaded}
 use Rattle.promises.specs.declared.Marked.{Marked}
 use Rattle.promises.specs.Refusals.{start_refusal, feed_refusal, load_refusal}
-use Rattle.promises.specs.LiftLaws.{lifted_length}
+use Rattle.promises.proofs.LiftLaws.{lifted_length}
 use Rattle.promises.specs.Marks.{mark_at, mark_length, set_mark, entries}
 use Rattle.promises.specs.Book.{Book, Call, lifted, blank, started_book, fed_book, loaded_book, marked_book, back_book, start_taken, feed_taken, load_taken, write, write_all, book_of}
 use Rattle.promises.specs.Replies.{or_refused, refusal_of}
-use Rattle.promises.specs.BookLaws.{Case, taken, left, start_cases, empty_taken, unless_zero, unless_not}
+use Rattle.promises.proofs.BookLaws.{Case, taken, left, start_cases, empty_taken, unless_zero, unless_not}
 use Rattle.promises.specs.State.{empty_under, with_lifts, with_marks, with_pick, with_picks, state_of_book, marks_of, with_mark, cut_to}
 use Rattle.promises.specs.Holds.{Holds}
-use Rattle.promises.specs.WritingLaws.{feed_number, feed_case, load_number, load_case}
-use Rattle.promises.specs.BackLaws.{held_marks, cut_state}
-use Rattle.promises.specs.MarkingLaws.{Goes, mark_goes, back_goes}
+use Rattle.promises.proofs.WritingLaws.{feed_number, feed_case, load_number, load_case}
+use Rattle.promises.proofs.BackLaws.{held_marks, cut_state}
+use Rattle.promises.proofs.MarkingLaws.{Goes, mark_goes, back_goes}
 use Rattle.promises.specs.Promises.{StartPromise, FeedPromise, LoadPromise, Marking}
 use Rattle.promises.specs.Runs.{Made, started, fed, loaded, marked, returned, asked, call_of, calls, Meets, leaves, Run, last}
 use Rattle.promises.specs.Demands.{WordsHold, StateOfBook}

@@ -13,14 +13,14 @@ use Rattle.layout.specs.Record.{Folded}
 use Rattle.layout.specs.Layout.{Laid, Layout, total, Passes, BreaksAt}
 use Rattle.layout.specs.Unfolding.{picks_of}
 use Rattle.layout.specs.Reading.{Reading, whole, breaks, reading}
-use Rattle.layout.specs.ReadingLaws.{laid_law, laid_one}
-use Rattle.layout.specs.BreakLaws.{break_law}
-use Rattle.layout.specs.UnfoldLaws.{unfold_law}
+use Rattle.layout.proofs.ReadingLaws.{laid_law, laid_one}
+use Rattle.layout.proofs.BreakLaws.{break_law}
+use Rattle.layout.proofs.UnfoldLaws.{unfold_law}
 use Rattle.promises.specs.Answers.{gave, refused, refused_at, Under, Reply, reply, filled}
 use Rattle.promises.specs.Refusals.{line5, unfold_refusal}
 use Rattle.promises.specs.Replies.{unfolded_to, unfold_reply}
 use Rattle.promises.specs.Listed.{Line, First, NoneMet, lengths_differ, list_shorter, unfold_lines}
-use Rattle.promises.specs.BookLaws.{unless_zero, unless_not}
+use Rattle.promises.proofs.BookLaws.{unless_zero, unless_not}
 use Rattle.promises.specs.ReadBack.{UnfoldRight, UnfoldHolds, PlacesHold}
 use Rattle.promises.proofs.Keeping.{gave_accepted}
 use Rattle.promises.proofs.Listing.{Tested, hit, clear, over, check, first_one, first_none}

@@ -18,14 +18,4 @@ pub mod Marking
 pub mod Unread
 pub mod ReadBack
 pub mod Alike
--- laws
-pub mod LiftLaws
-pub mod MarkLaws
-pub mod RefusalLaws
-pub mod BookLaws
-pub mod WritingLaws
-pub mod BackLaws
-pub mod MarkingLaws
-pub mod ReadingLaws
-pub mod LentLaws
-pub mod ShowLaws
+

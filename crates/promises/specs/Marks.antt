@@ -65,3 +65,7 @@ read_mark (suc m) = some m
 
 abbrev pub marks_in : (stored : List ℕ) → Marks
 marks_in stored = map read_mark stored
+
+-- what becomes of an entry: top is that of length m
+abbrev pub keep_to : (top entry : ℕ) → ℕ
+keep_to top entry = cond (leb entry top) entry 0

@@ -114,3 +114,9 @@ show_refusal letters ends s = line4 1 (length ends) s (line6 letters ends 0)
 -- 12, 5, after 11: of a record, the picks that its lengths add up to and the picks that it says
 unfoldable pub unfold_refusal : (total picks entries : ℕ) → ℕ
 unfold_refusal total picks entries = line12 total picks (line5 picks entries 0)
+
+-- Two tests, one after the other: the first number that is not 0
+
+abbrev pub or_else : ℕ → ℕ → ℕ
+or_else zero b = b
+or_else (suc a) b = suc a

@@ -102,3 +102,9 @@ picks_of d = take d.n d.letters
 unfoldable pub cut_to : Draft → (m : ℕ) → Draft
 unfolding with_picks
 cut_to d m = with_picks (empty_under d.k d.lifts (drop_longer m (marks_of d))) (take m (picks_of d))
+
+-- what the core makes of these codes, one after another
+unfoldable pub append_all : (K n : ℕ) → Arrays → (codes : List ℕ) → Arrays
+unfolding append
+append_all K n a [] = a
+append_all K n a (code ∷ codes) = append_all K (suc n) (append K n code a []).arrays codes

@@ -14,7 +14,7 @@ use Rattle.layout.specs.Record.{Folded}
 use Rattle.layout.specs.Layout.{total}
 use Rattle.layout.specs.Reading.{Reading, whole, breaks, reading}
 use Rattle.layout.specs.Yield.{nothing_at, found_at, section_after, bytes_in, among, yielded, yield_at, on_from, walk}
-use Rattle.layout.specs.YieldLaws.{yields_law, yields_none}
+use Rattle.layout.proofs.YieldLaws.{yields_law, yields_none}
 use Rattle.promises.proofs.ReadBack.{section_is}
 use Rattle.reader.specs.declared.Reader.{Reader}
 use Rattle.reader.specs.Reader.{Steps, over, again, in_order, StepsHold}

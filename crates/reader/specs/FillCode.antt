@@ -7,8 +7,8 @@ use Rattle.std.proofs.Math.Option.{Option}
 use borrow.Author.Tests.{eq-eqb, ne_eqb}
 use Rattle.layout.specs.Unfolding.{picks_of}
 use Rattle.layout.specs.Reading.{State, start, run}
-use Rattle.layout.specs.Steps.{picks_digit, picks_end, count_digit, count_end, length_digit, length_end, letter, another, last}
-use Rattle.layout.specs.Back.{fits}
+use Rattle.layout.proofs.Steps.{picks_digit, picks_end, count_digit, count_end, length_digit, length_end, letter, another, last}
+use Rattle.layout.proofs.Back.{fits}
 use Rattle.reader.specs.declared.step.Scan.{Scan}
 use Rattle.reader.specs.Numbers.{at_half, at_break, numbers_of}
 use Rattle.reader.specs.ScanCode.{after, after_all, Reads, stuck, goes, reads}

@@ -9,9 +9,9 @@ use Rattle.layout.specs.Record.{Folded}
 use Rattle.layout.specs.Layout.{Every, Fits, total}
 use Rattle.layout.specs.Unfolding.{unfolded, picks_of}
 use Rattle.layout.specs.Reading.{State, in_picks, in_count, in_length, in_half, closed}
-use Rattle.layout.specs.Entries.{length_snoc}
-use Rattle.layout.specs.UnfoldLaws.{unfolded_low, unfolded_high, picks_length, picks_snoc}
-use Rattle.layout.specs.Places.{total_snoc}
+use Rattle.layout.proofs.Entries.{length_snoc}
+use Rattle.layout.proofs.UnfoldLaws.{unfolded_low, unfolded_high, picks_length, picks_snoc}
+use Rattle.layout.proofs.Places.{total_snoc}
 use Rattle.promises.specs.Answers.{filled}
 use Rattle.reader.specs.declared.step.Scan.{Scan}
 use Rattle.reader.specs.Numbers.{at_half}

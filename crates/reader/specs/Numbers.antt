@@ -9,9 +9,9 @@ use Rattle.layout.specs.Record.{Folded}
 use Rattle.layout.specs.Layout.{Every, more as every_more, Fits, total}
 use Rattle.layout.specs.Reading.{State, in_picks, in_count, in_length, in_half, closed, start, is_digit, is_letter, onward}
 use Rattle.layout.specs.Reading.{in_number, in_letters, and_then, step, run}
-use Rattle.layout.specs.Entries.{length_snoc}
-use Rattle.layout.specs.Back.{Valid, back}
-use Rattle.layout.specs.Places.{total_snoc}
+use Rattle.layout.proofs.Entries.{length_snoc}
+use Rattle.layout.proofs.Back.{Valid, back}
+use Rattle.layout.proofs.Places.{total_snoc}
 use Rattle.reader.specs.declared.step.Scan.{Scan}
 
 -- the code's numbers for where the reading is

@@ -6,9 +6,9 @@ use Rattle.std.proofs.Math.Option.{Option, some, none}
 use Rattle.std.proofs.lemmas.Bool.{eqb-false}
 use Rattle.words.proofs.Cases.{clash}
 use Rattle.layout.specs.Reading.{State, in_picks, in_count, in_length, in_half, closed, start, and_then, step, run, one_past, reach}
-use Rattle.layout.specs.Steps.{Steps, steps}
-use Rattle.layout.specs.Back.{bytes_to, Valid, back}
-use Rattle.layout.specs.ReadingLaws.{reach_read}
+use Rattle.layout.proofs.Steps.{Steps, steps}
+use Rattle.layout.proofs.Back.{bytes_to, Valid, back}
+use Rattle.layout.proofs.ReadingLaws.{reach_read}
 use Rattle.reader.specs.declared.step.Scan.{Scan}
 use Rattle.reader.specs.Numbers.{at_break, numbers_of, stepped, stepped_law, Small, small}
 

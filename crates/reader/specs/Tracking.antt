@@ -9,10 +9,10 @@ use Rattle.layout.specs.Record.{Folded}
 use Rattle.layout.specs.Layout.{total, opening}
 use Rattle.layout.specs.Reading.{State, in_picks, in_count, in_length, in_half, closed, start, run, reach, number_at, reading_of, reading}
 use Rattle.layout.specs.Yield.{section_after, nothing_at, found_at, bytes_in, among, behind_count, yielded, yield_at}
-use Rattle.layout.specs.Entries.{length_snoc}
-use Rattle.layout.specs.Steps.{picks_digit, picks_end, count_digit, count_end, length_digit, length_end, letter, another, last}
-use Rattle.layout.specs.Back.{digits_to, digits_some, folded_bytes, bytes_to}
-use Rattle.layout.specs.Places.{offset, offset_append, bytes_in_two, opening_length}
+use Rattle.layout.proofs.Entries.{length_snoc}
+use Rattle.layout.proofs.Steps.{picks_digit, picks_end, count_digit, count_end, length_digit, length_end, letter, another, last}
+use Rattle.layout.proofs.Back.{digits_to, digits_some, folded_bytes, bytes_to}
+use Rattle.layout.proofs.Places.{offset, offset_append, bytes_in_two, opening_length}
 use Rattle.reader.specs.declared.step.Scan.{Scan}
 use Rattle.reader.specs.Numbers.{numbers_of}
 use Rattle.reader.specs.ScanCode.{after, after_all, Reads, stuck, goes, reads}

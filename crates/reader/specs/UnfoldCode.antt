@@ -10,9 +10,9 @@ use Rattle.layout.specs.Record.{Folded}
 use Rattle.layout.specs.Layout.{total}
 use Rattle.layout.specs.Unfolding.{picks_of}
 use Rattle.layout.specs.Reading.{closed, start, run, Reading, whole, breaks, reading}
-use Rattle.layout.specs.Forward.{forward}
-use Rattle.layout.specs.ReadingLaws.{laid_law}
-use Rattle.layout.specs.UnfoldLaws.{picks_length}
+use Rattle.layout.proofs.Forward.{forward}
+use Rattle.layout.proofs.ReadingLaws.{laid_law}
+use Rattle.layout.proofs.UnfoldLaws.{picks_length}
 use Rattle.promises.specs.declared.UnfoldAnswer.TheVariants.{Unfolded, Refused, RefusedAt}
 use Rattle.promises.specs.Answers.{filled}
 use Rattle.promises.specs.Replies.{unfold_reply}

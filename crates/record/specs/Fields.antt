@@ -6,7 +6,7 @@ use Rattle.words.specs.Mirror.{stretch_length}
 use Rattle.text.specs.Definitions.{comma, line_end, decimal}
 use Rattle.text.specs.Decimal.{most_digits}
 use Rattle.layout.specs.Record.{fields_of, behind_commas, folded_of, record_of}
-use Rattle.layout.specs.WrittenLaws.{folded_count}
+use Rattle.layout.proofs.WrittenLaws.{folded_count}
 
 -- One section, between the ends a and e: a comma, its length, a comma, its first half
 unfoldable pub section_bytes : (ℕ → ℕ) → ℕ → ℕ → List ℕ

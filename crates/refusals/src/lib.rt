@@ -4,7 +4,7 @@
 
 ghost use Rattle.std.specs.Prelude.{◌≡◌, ◌+◌, ◌*◌, ◌≤◌};
 ghost use Rattle.promises.specs.Refusals.{line1, line2, line3, line4, line7, line8, line13, line14, line16, start_refusal, feed_refusal, mask_refusal, centre_refusal, longest_refusal, split_refusal, record_refusal, letter_refusal};
-ghost use Rattle.promises.specs.RefusalLaws.{or_else};
+ghost use Rattle.promises.specs.Refusals.{or_else};
 ghost use Rattle.words.specs.Definitions.{most_picks};
 
 use cells::{ALPHABET, Centre, FIRST_LETTER, LAST_LETTER, Numbers, PICKS, Place, SECTIONS, VISITS};
@@ -130,7 +130,7 @@ pub fn start_refusal(k: u8) -> u8
     line1(SECTIONS, k)
 }
 
-#[tactic(auto, using(promises::specs::RefusalLaws::feed_order))]
+#[tactic(auto, using(promises::proofs::RefusalLaws::feed_order))]
 pub fn feed_refusal(held: Numbers, pick: u8, entries: usize) -> u8
     ensures { result ≡ feed_refusal held.n held.k pick entries }
 {
@@ -141,7 +141,7 @@ pub fn feed_refusal(held: Numbers, pick: u8, entries: usize) -> u8
     first(state, first(letter, first(list, room)))
 }
 
-#[tactic(auto, using(promises::specs::RefusalLaws::mask_order))]
+#[tactic(auto, using(promises::proofs::RefusalLaws::mask_order))]
 pub fn mask_refusal(held: Numbers, i: Place) -> u8
     ensures { result ≡ mask_refusal held.n held.k i.0 }
 {
@@ -160,7 +160,7 @@ fn last_centre(n: usize) -> usize
     0
 }
 
-#[tactic(auto, using(promises::specs::RefusalLaws::centre_order))]
+#[tactic(auto, using(promises::proofs::RefusalLaws::centre_order))]
 pub fn centre_refusal(held: Numbers, c: Centre) -> u8
     ensures { result ≡ centre_refusal held.n held.k c.0 }
 {
@@ -176,7 +176,7 @@ pub fn longest_refusal(held: Numbers) -> u8
     line7(held.n, held.k)
 }
 
-#[tactic(auto, using(promises::specs::RefusalLaws::split_order))]
+#[tactic(auto, using(promises::proofs::RefusalLaws::split_order))]
 pub fn split_refusal(held: Numbers, i: Place, k: u8, entries: usize) -> u8
     ensures { result ≡ split_refusal held.n held.k i.0 k entries }
 {
@@ -187,7 +187,7 @@ pub fn split_refusal(held: Numbers, i: Place, k: u8, entries: usize) -> u8
     first(state, first(sections, first(list, prefix)))
 }
 
-#[tactic(auto, using(promises::specs::RefusalLaws::record_order))]
+#[tactic(auto, using(promises::proofs::RefusalLaws::record_order))]
 pub fn record_refusal(held: Numbers, i: Place, k: u8) -> u8
     ensures { result ≡ record_refusal held.n held.k i.0 k }
 {
@@ -198,7 +198,7 @@ pub fn record_refusal(held: Numbers, i: Place, k: u8) -> u8
 }
 
 // Of a lift, a mark and going back: 7 and 2.
-#[tactic(auto, using(promises::specs::RefusalLaws::letter_order))]
+#[tactic(auto, using(promises::proofs::RefusalLaws::letter_order))]
 pub fn letter_refusal(held: Numbers, letter: u8) -> u8
     ensures { result ≡ letter_refusal held.n held.k letter }
 {

@@ -4,9 +4,9 @@ use mathlib.Core.Path.{◌≡◌, ap, ◌∙◌}
 use Prim.Native.Nat.{◌-◌, min}
 use lib.ListN.{length}
 use Rattle.words.specs.Definitions.{most_picks}
-use Rattle.promises.specs.RefusalLaws.{Passed, letter_passed}
-use Rattle.promises.specs.BackLaws.{back_state}
-use Rattle.promises.specs.MarkingLaws.{back_refused, back_lacking, back_done}
+use Rattle.promises.proofs.RefusalLaws.{Passed, letter_passed}
+use Rattle.promises.proofs.BackLaws.{back_state}
+use Rattle.promises.proofs.MarkingLaws.{back_refused, back_lacking, back_done}
 use Rattle.calls.proofs.back.back.Statement.{statement}
 use Rattle.calls.proofs.back.back.Tie as tie
 

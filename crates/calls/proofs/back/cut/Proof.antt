@@ -3,7 +3,7 @@ use native.Mathlib.Omega.{arith}
 use mathlib.Core.Path.{◌≡◌, refl, sym, ap, ◌∙◌}
 use Prim.Native.Nat.{suc, ◌+◌, ◌-◌, ◌≤◌}
 use lib.ListN.{length, set, length-set}
-use Rattle.promises.specs.BackLaws.{cut_at, cut_none, cut_more, cut_all}
+use Rattle.promises.proofs.BackLaws.{cut_at, cut_none, cut_more, cut_all}
 use Rattle.calls.proofs.back.cut.Statement.{statement}
 use Rattle.calls.proofs.back.cut.Tie as tie
 

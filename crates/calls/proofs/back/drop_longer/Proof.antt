@@ -4,7 +4,8 @@ use mathlib.Core.Path.{◌≡◌, refl, sym, ap, ◌∙◌}
 use Prim.Native.Nat.{suc, ◌+◌, ◌-◌, ◌≤◌, ◌<◌}
 use lib.ListN.{length, set, length-set}
 use Rattle.models.specs.Stores.{at}
-use Rattle.promises.specs.MarkLaws.{keep_to, kept_to, kept_next, kept_more, kept_all}
+use Rattle.promises.proofs.MarkLaws.{kept_to, kept_next, kept_more, kept_all}
+use Rattle.promises.specs.Marks.{keep_to}
 use Rattle.calls.proofs.back.drop_longer.Statement.{statement}
 use Rattle.calls.proofs.back.drop_longer.Tie as tie
 

@@ -7,7 +7,8 @@ use Rattle.words.specs.Definitions.{most_visits}
 use Rattle.cells.specs.Lanes.{by_centre, by_place}
 use Rattle.models.specs.Core.{arrays_in}
 use Rattle.promises.specs.Lifts.{lift_in, lifted_by}
-use Rattle.promises.specs.BackLaws.{append_all, again_one, again_all}
+use Rattle.promises.proofs.BackLaws.{again_one, again_all}
+use Rattle.promises.specs.State.{append_all}
 use Rattle.calls.proofs.back.feed_again.Statement.{statement}
 use Rattle.calls.proofs.back.feed_again.Tie as tie
 

@@ -2,8 +2,8 @@ use borrow.Author.Rules.{rules}
 use native.Mathlib.Omega.{arith}
 use mathlib.Core.Path.{refl}
 use lib.ListN.{length}
-use Rattle.promises.specs.RefusalLaws.{FeedFits, feed_fits}
-use Rattle.promises.specs.WritingLaws.{feed_refused, feed_taken_lem}
+use Rattle.promises.proofs.RefusalLaws.{FeedFits, feed_fits}
+use Rattle.promises.proofs.WritingLaws.{feed_refused, feed_taken_lem}
 use Rattle.calls.proofs.feed.feed.Statement.{statement}
 use Rattle.calls.proofs.feed.feed.Tie as tie
 

@@ -4,7 +4,7 @@ use mathlib.Core.Path.{◌≡◌, sym, ap, ◌∙◌}
 use Prim.Native.Nat.{suc, ◌+◌, ◌-◌, ◌≤◌}
 use lib.ListN.{length, drop, drop_of_length-le}
 use Rattle.promises.specs.Lifts.{first_zero}
-use Rattle.promises.specs.LiftLaws.{zero_here, zero_later}
+use Rattle.promises.proofs.LiftLaws.{zero_here, zero_later}
 use Rattle.calls.proofs.load.first_zero.Statement.{statement}
 use Rattle.calls.proofs.load.first_zero.Tie as tie
 

@@ -1,6 +1,6 @@
 use borrow.Author.Rules.{rules}
 use native.Mathlib.Omega.{arith}
-use Rattle.promises.specs.LentLaws.{table_refused, zero_refused, begun_refused, table_taken}
+use Rattle.promises.proofs.LentLaws.{table_refused, zero_refused, begun_refused, table_taken}
 use Rattle.calls.proofs.load.load.Statement.{statement}
 use Rattle.calls.proofs.load.load.Tie as tie
 

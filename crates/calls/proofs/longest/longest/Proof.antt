@@ -4,9 +4,9 @@ use mathlib.Core.List.{[], ◌∷◌}
 use native.Mathlib.Omega.{arith}
 use Rattle.promises.specs.Book.{longest, lent}
 use Rattle.promises.specs.Replies.{gives, refusal_of}
-use Rattle.promises.specs.RefusalLaws.{longest_passed}
+use Rattle.promises.proofs.RefusalLaws.{longest_passed}
 use Rattle.promises.specs.Promises.{found_in}
-use Rattle.promises.specs.LentLaws.{refused_on, given_on}
+use Rattle.promises.proofs.LentLaws.{refused_on, given_on}
 use Rattle.calls.proofs.longest.longest.Statement.{statement}
 use Rattle.calls.proofs.longest.longest.Tie as tie
 

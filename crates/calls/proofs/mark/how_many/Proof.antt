@@ -5,7 +5,7 @@ use mathlib.Core.List.{[], ◌∷◌}
 use Prim.Native.Nat.{suc, ◌+◌, ◌-◌, ◌≤◌}
 use lib.ListN.{length, drop, drop_of_length-le}
 use Rattle.promises.specs.Marks.{how_many, marks_in}
-use Rattle.promises.specs.MarkLaws.{many_from}
+use Rattle.promises.proofs.MarkLaws.{many_from}
 use Rattle.calls.proofs.mark.how_many.Statement.{statement}
 use Rattle.calls.proofs.mark.how_many.Tie as tie
 

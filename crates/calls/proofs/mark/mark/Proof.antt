@@ -2,8 +2,8 @@ use borrow.Author.Rules.{rules}
 use native.Mathlib.Omega.{arith}
 use mathlib.Core.Path.{ap₂, ◌∙◌}
 use lib.ListN.{set}
-use Rattle.promises.specs.RefusalLaws.{Passed, letter_passed}
-use Rattle.promises.specs.MarkingLaws.{mark_refused_on, mark_lacking_on, mark_done_on}
+use Rattle.promises.proofs.RefusalLaws.{Passed, letter_passed}
+use Rattle.promises.proofs.MarkingLaws.{mark_refused_on, mark_lacking_on, mark_done_on}
 use Rattle.calls.proofs.mark.mark.Statement.{statement}
 use Rattle.calls.proofs.mark.mark.Tie as tie
 

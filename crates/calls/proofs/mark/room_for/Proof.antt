@@ -3,7 +3,7 @@ use native.Mathlib.Omega.{arith}
 use mathlib.Core.Path.{ap, ◌∙◌}
 use lib.Dec.{ltb}
 use Rattle.promises.specs.Marks.{most_marks}
-use Rattle.promises.specs.MarkLaws.{room_mark, room_new}
+use Rattle.promises.proofs.MarkLaws.{room_mark, room_new}
 use Rattle.calls.proofs.mark.room_for.Statement.{statement}
 use Rattle.calls.proofs.mark.room_for.Tie as tie
 

@@ -4,7 +4,7 @@ use mathlib.Core.List.{[], ◌∷◌}
 use Rattle.promises.specs.Book.{mask, lent}
 use Rattle.promises.specs.Replies.{gives, refusal_of}
 use Rattle.promises.specs.Promises.{found_in}
-use Rattle.promises.specs.LentLaws.{refused_on, given_on}
+use Rattle.promises.proofs.LentLaws.{refused_on, given_on}
 use Rattle.calls.proofs.mask.mask.Statement.{statement}
 use Rattle.calls.proofs.mask.mask.Tie as tie
 

@@ -5,9 +5,9 @@ use mathlib.Core.List.{[]}
 use Rattle.promises.specs.Answers.{reply}
 use Rattle.promises.specs.Book.{next, lent}
 use Rattle.promises.specs.Replies.{or_no_ending, refusal_of}
-use Rattle.promises.specs.RefusalLaws.{centre_passed}
+use Rattle.promises.proofs.RefusalLaws.{centre_passed}
 use Rattle.promises.specs.Promises.{found_in}
-use Rattle.promises.specs.LentLaws.{refused_on, given_on}
+use Rattle.promises.proofs.LentLaws.{refused_on, given_on}
 use Rattle.calls.proofs.next.next.Statement.{statement}
 use Rattle.calls.proofs.next.next.Tie as tie
 

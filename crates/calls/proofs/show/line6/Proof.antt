@@ -1,5 +1,5 @@
 use borrow.Author.Rules.{rules}
-use Rattle.promises.specs.ShowLaws.{line6_risen, line6_fails}
+use Rattle.promises.proofs.ShowLaws.{line6_risen, line6_fails}
 use Rattle.calls.proofs.show.line6.Statement.{statement}
 use Rattle.calls.proofs.show.line6.Tie as tie
 

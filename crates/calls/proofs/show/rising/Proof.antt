@@ -5,7 +5,7 @@ use Prim.Native.Nat.{◌-◌, ◌≤◌}
 use lib.ListN.{length, drop}
 use Rattle.words.specs.Computed.{rising?}
 use mathlib.Core.Bool.{decide}
-use Rattle.promises.specs.ShowLaws.{rising_on, rising_stops, rising_ends}
+use Rattle.promises.proofs.ShowLaws.{rising_on, rising_stops, rising_ends}
 use Rattle.calls.proofs.show.rising.Statement.{statement}
 use Rattle.calls.proofs.show.rising.Tie as tie
 

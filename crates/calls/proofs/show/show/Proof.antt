@@ -1,7 +1,7 @@
 use mathlib.Core.Path.{refl}
 use borrow.Author.Rules.{rules}
 use native.Mathlib.Omega.{arith}
-use Rattle.promises.specs.ShowLaws.{part_fits, show_refused, behind_refused, show_given, behind_given}
+use Rattle.promises.proofs.ShowLaws.{part_fits, show_refused, behind_refused, show_given, behind_given}
 use Rattle.calls.proofs.show.show.Statement.{statement}
 use Rattle.calls.proofs.show.show.Tie as tie
 

@@ -1,5 +1,5 @@
 use borrow.Author.Rules.{rules}
-use Rattle.promises.specs.RefusalLaws.{show_order}
+use Rattle.promises.proofs.RefusalLaws.{show_order}
 use Rattle.calls.proofs.show.show_number.Statement.{statement}
 use Rattle.calls.proofs.show.show_number.Tie as tie
 

@@ -6,8 +6,8 @@ use lib.Seq.{length-take-le}
 use Rattle.models.specs.Iterator.{longest_of}
 use Rattle.promises.specs.Book.{split, lent}
 use Rattle.promises.specs.Replies.{refusal_of}
-use Rattle.promises.specs.RefusalLaws.{split_fits}
-use Rattle.promises.specs.LentLaws.{refused_on, given_on, split_in_lem, split_lacking, split_given}
+use Rattle.promises.proofs.RefusalLaws.{split_fits}
+use Rattle.promises.proofs.LentLaws.{refused_on, given_on, split_in_lem, split_lacking, split_given}
 use Rattle.calls.proofs.split.split.Statement.{statement}
 use Rattle.calls.proofs.split.split.Tie as tie
 

@@ -1,5 +1,5 @@
 use borrow.Author.Rules.{rules}
-use Rattle.promises.specs.WritingLaws.{start_refused, start_begun_in}
+use Rattle.promises.proofs.WritingLaws.{start_refused, start_begun_in}
 use Rattle.calls.proofs.start.start.Statement.{statement}
 use Rattle.calls.proofs.start.start.Tie as tie
 

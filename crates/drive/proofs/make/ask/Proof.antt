@@ -3,7 +3,7 @@ use mathlib.Core.Path.{◌≡◌, refl}
 use mathlib.Core.List.{[]}
 use Rattle.promises.specs.Answers.{reply, split_says, centre_says, mask_says, radius_says, next_says, record_says, lift_says}
 use Rattle.promises.specs.Book.{split, longest, mask, radius, next, fold, lift}
-use Rattle.promises.specs.BookLaws.{none_left}
+use Rattle.promises.proofs.BookLaws.{none_left}
 use Rattle.drive.specs.Script.{first_query, query_count, call_on, source_of, source_at}
 use Rattle.drive.specs.Requests.{behind, none_known}
 use Rattle.drive.specs.Calling.{query_makes}

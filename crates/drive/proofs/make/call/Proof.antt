@@ -1,7 +1,7 @@
 use borrow.Author.Rules.{rules}
 use mathlib.Core.Path.{refl}
 use native.Mathlib.Omega.{arith}
-use Rattle.promises.specs.BookLaws.{none_left}
+use Rattle.promises.proofs.BookLaws.{none_left}
 use Rattle.drive.specs.Script.{writing_count, call_on, source_of, source_at}
 use Rattle.drive.specs.Requests.{behind, query_known}
 use Rattle.drive.specs.Calling.{start_makes, feed_makes, load_makes, mark_makes, back_makes}

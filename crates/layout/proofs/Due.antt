@@ -9,10 +9,10 @@ use Rattle.layout.specs.Record.{Folded}
 use Rattle.layout.specs.Layout.{Every, none as every-none, more as every_more, Letter, Digit, Fits}
 use Rattle.layout.specs.Layout.{opening, NumberDue, of_picks, of_sections, of_length}
 use Rattle.layout.specs.Reading.{State, in_picks, in_count, in_length, in_half, closed, start, in_number, step, run}
-use Rattle.layout.specs.Entries.{every_at}
-use Rattle.layout.specs.Steps.{by_section}
-use Rattle.layout.specs.Forward.{run_picks, run_count, run_opening}
-use Rattle.layout.specs.Back.{digits_to, bytes_to, Valid}
+use Rattle.layout.proofs.Entries.{every_at}
+use Rattle.layout.proofs.Steps.{by_section}
+use Rattle.layout.proofs.Forward.{run_picks, run_count, run_opening}
+use Rattle.layout.proofs.Back.{digits_to, bytes_to, Valid}
 
 -- a number is due in the state, or is being read
 unfoldable pub in_digits : State → Bool

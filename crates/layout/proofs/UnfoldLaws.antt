@@ -12,7 +12,7 @@ use Rattle.words.proofs.Splits.{append_parts, split_joined}
 use Rattle.layout.specs.Record.{Folded, laid_out, folded_of, record_of}
 use Rattle.layout.specs.Layout.{Every, none as every-none, more as every_more, Letter, Fits, total, Passes}
 use Rattle.layout.specs.Unfolding.{unfolded, picks_of, ends_of, Unfolds}
-use Rattle.layout.specs.Entries.{every_append, every_reverse, every_take}
+use Rattle.layout.proofs.Entries.{every_append, every_reverse, every_take}
 
 -- Lists and stretches
 

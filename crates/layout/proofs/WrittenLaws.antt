@@ -11,8 +11,8 @@ use Rattle.words.specs.Mirror.{stretch_length, stretch_join}
 use Rattle.layout.specs.Record.{Folded, folded_of, record_of}
 use Rattle.layout.specs.Layout.{Every, none as every-none, more as every_more, Letter, Fits, total, Passes}
 use Rattle.layout.specs.Unfolding.{unfolded, picks_of, ends_of}
-use Rattle.layout.specs.Entries.{every_at}
-use Rattle.layout.specs.UnfoldLaws.{stretch_take, unfold_law}
+use Rattle.layout.proofs.Entries.{every_at}
+use Rattle.layout.proofs.UnfoldLaws.{stretch_take, unfold_law}
 
 -- the writer's sections are as many as the ends
 pub folded_count : (w : ℕ → ℕ) (a : ℕ) (ends : List ℕ) → length (folded_of w a ends) ≡ length ends

@@ -16,11 +16,12 @@ use Rattle.models.specs.Core.{Arrays, arrays_in, After, append, append_arrays, A
 use Rattle.promises.specs.declared.Draft.{Draft}
 use Rattle.promises.specs.Lifts.{lift_in, lifted_by}
 use Rattle.promises.specs.Marks.{drop_longer, marks_in}
-use Rattle.promises.specs.MarkLaws.{read_entries, keep_to, entries_drop}
+use Rattle.promises.proofs.MarkLaws.{read_entries, entries_drop}
+use Rattle.promises.specs.Marks.{keep_to}
 use Rattle.promises.specs.Book.{Book, book, cut_book}
-use Rattle.promises.specs.State.{draft_in, centres_of, places_of, empty_under, fresh, arrays_of, state_with, with_pick, with_picks, state_of_book, marks_of, picks_of, cut_to}
+use Rattle.promises.specs.State.{draft_in, centres_of, places_of, empty_under, fresh, arrays_of, state_with, with_pick, with_picks, state_of_book, marks_of, picks_of, cut_to, append_all}
 use Rattle.promises.specs.Holds.{Holds}
-use Rattle.promises.specs.WritingLaws.{held_fits, empty_holds, pick_holds}
+use Rattle.promises.proofs.WritingLaws.{held_fits, empty_holds, pick_holds}
 
 -- picks one after another
 picks_hold : {d : Draft} {b : Book} (picks : List ℕ) → Holds d b → length b.row + length picks ≤ most_picks
@@ -113,12 +114,6 @@ cut_all kept j letters a c d =
     ∙ ap (λ k. take kept letters ++ replicate (k - kept) 0) e
     ∙ ap (λ t. take kept letters ++ t) (sym (zeros_behind size kept a) ∙ ap (λ k. drop k (replicate size 0)) (sym l))
     ∙ sym (sets_front (take kept letters) (replicate size 0) (omega (arith, l, length-replicate {A = ℕ} size 0)))
-
--- what the core makes of these codes, one after another
-unfoldable pub append_all : (K n : ℕ) → Arrays → (codes : List ℕ) → Arrays
-unfolding append
-append_all K n a [] = a
-append_all K n a (code ∷ codes) = append_all K (suc n) (append K n code a []).arrays codes
 
 -- the pick after the first n of those that are kept: its code is given to the core
 pub again_one : (K n kept code : ℕ) (lifts letters : List ℕ) {k : ℕ} {a : Arrays} {vs : List ℕ} {z : After} → n < kept → kept ≤ length letters

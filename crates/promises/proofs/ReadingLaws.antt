@@ -23,12 +23,12 @@ use Rattle.promises.specs.Lifts.{lift_in}
 use Rattle.promises.specs.Book.{Book, Query, ask, split, longest, mask, radius, fold, lift, lent, lifted}
 use Rattle.promises.specs.Book.{next as nextAsked}
 use Rattle.promises.specs.Replies.{unless, or_no_split, or_no_ending, or_too_long, gives, split_reply, record_reply, refusal_of, found_for, reply_to}
-use Rattle.promises.specs.RefusalLaws.{mask_fits, centre_fits, record_fits, split_fits}
-use Rattle.promises.specs.BookLaws.{unless_as}
+use Rattle.promises.proofs.RefusalLaws.{mask_fits, centre_fits, record_fits, split_fits}
+use Rattle.promises.proofs.BookLaws.{unless_as}
 use Rattle.promises.specs.Holds.{Holds}
 use Rattle.promises.specs.Promises.{mask_byte, split_held, found_in, computed_to, Reads}
-use Rattle.promises.specs.LiftLaws.{lifted_length}
-use Rattle.promises.specs.WritingLaws.{byte_mask, held_picks}
+use Rattle.promises.proofs.LiftLaws.{lifted_length}
+use Rattle.promises.proofs.WritingLaws.{byte_mask, held_picks}
 
 -- what is stored, where the state holds what stands in the book
 module _ {d : Draft} {b : Book} (h : Holds d b) where

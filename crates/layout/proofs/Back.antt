@@ -11,9 +11,9 @@ use Rattle.text.specs.Decimal.{decimal_digit, decimal_more}
 use Rattle.layout.specs.Record.{Folded, fields_of, behind_commas, laid_out}
 use Rattle.layout.specs.Layout.{Every, none as every-none, Letter, Digit, Fits, Laid, opening}
 use Rattle.layout.specs.Reading.{State, in_picks, in_count, in_length, in_half, closed, start, onward, step, run}
-use Rattle.layout.specs.Entries.{length_snoc, every_snoc}
-use Rattle.layout.specs.Steps.{Steps, picks_digit, picks_end, count_digit, count_end, length_digit, length_end, letter, another, last}
-use Rattle.layout.specs.Steps.{steps}
+use Rattle.layout.proofs.Entries.{length_snoc, every_snoc}
+use Rattle.layout.proofs.Steps.{Steps, picks_digit, picks_end, count_digit, count_end, length_digit, length_end, letter, another, last}
+use Rattle.layout.proofs.Steps.{steps}
 
 -- The digits that lead to a number: none to 0
 

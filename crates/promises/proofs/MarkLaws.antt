@@ -9,7 +9,7 @@ use Rattle.std.proofs.lemmas.Bool.{lt-leb}
 use Rattle.words.proofs.Cases.{clash}
 use Rattle.words.specs.Definitions.{first_letter}
 use Rattle.promises.specs.Lifts.{table_size}
-use Rattle.promises.specs.Marks.{Marks, most_marks, no_marks, mark_at, is_mark, how_many, room_for, set_mark, up_to, drop_longer, entry_of, entries, read_mark, marks_in}
+use Rattle.promises.specs.Marks.{Marks, most_marks, no_marks, mark_at, is_mark, how_many, room_for, set_mark, up_to, drop_longer, entry_of, entries, read_mark, marks_in, keep_to}
 
 -- Stored and read
 
@@ -68,10 +68,6 @@ many_from (suc x ∷ stored) zero l = omega arith
 many_from (x ∷ stored) (suc j) l = many_from stored j (omega arith)
 
 -- Dropped
-
--- what becomes of an entry: top is that of length m
-abbrev pub keep_to : (top entry : ℕ) → ℕ
-keep_to top entry = cond (leb entry top) entry 0
 
 keep_read : (m x : ℕ) → keep_to (suc m) x ≡ entry_of (up_to m (read_mark x))
 keep_read m zero = simp (le-leb 0 (suc m) (omega arith))

@@ -8,7 +8,7 @@ use Rattle.words.specs.Definitions.{most_picks, most_sections, most_visits, firs
 use Rattle.words.specs.Computed.{rising?}
 use Rattle.words.specs.Ranges.{between, between_true}
 use Rattle.promises.specs.Lifts.{table_size, none_zero}
-use Rattle.promises.specs.Refusals.{test, line1, line2, line3, line4, line6, line7, line8, line13, line14, line15, line16, start_refusal, feed_refusal, load_refusal, mask_refusal, centre_refusal, longest_refusal, split_refusal, record_refusal, letter_refusal, show_refusal}
+use Rattle.promises.specs.Refusals.{test, line1, line2, line3, line4, line6, line7, line8, line13, line14, line15, line16, start_refusal, feed_refusal, load_refusal, mask_refusal, centre_refusal, longest_refusal, split_refusal, record_refusal, letter_refusal, show_refusal, or_else}
 
 test_zero : (t : Bool) (number after : ℕ) → 0 < number → test t number after ≡ 0 → (t ≡ true) × (after ≡ 0)
 test_zero true number after l e = (refl, e)
@@ -99,10 +99,6 @@ split_fits n K i k entries e =
     )
 
 -- Two tests, one after the other: the first number that is not 0
-
-abbrev pub or_else : ℕ → ℕ → ℕ
-or_else zero b = b
-or_else (suc a) b = suc a
 
 or_else_lem : (t : Bool) (number after : ℕ) → or_else (test t (suc number) 0) after ≡ test t (suc number) after
 or_else_lem true number after = refl

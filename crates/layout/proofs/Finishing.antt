@@ -8,10 +8,10 @@ use Rattle.text.specs.Definitions.{comma, line_end, digit_zero}
 use Rattle.layout.specs.Record.{Folded}
 use Rattle.layout.specs.Layout.{Begins}
 use Rattle.layout.specs.Reading.{State, in_picks, in_count, in_length, in_half, closed, start, onward, in_number, step, run}
-use Rattle.layout.specs.Entries.{length_snoc}
-use Rattle.layout.specs.Steps.{by_digit, by_comma, by_letter, by_section, by_end, steps}
-use Rattle.layout.specs.Forward.{run_one, run_append}
-use Rattle.layout.specs.Back.{Valid, step_back, back, back_closed}
+use Rattle.layout.proofs.Entries.{length_snoc}
+use Rattle.layout.proofs.Steps.{by_digit, by_comma, by_letter, by_section, by_end, steps}
+use Rattle.layout.proofs.Forward.{run_one, run_append}
+use Rattle.layout.proofs.Back.{Valid, step_back, back, back_closed}
 
 -- bytes enough to finish a record: digit 1 where a number is due, its comma, A for each letter that is due, and sections of one pick
 abbrev bytes_left : State → ℕ

@@ -15,15 +15,15 @@ use Rattle.promises.specs.declared.MarkAnswer.TheVariants.{Done, Refused as Mark
 use Rattle.promises.specs.Answers.{gave, refused, reply}
 use Rattle.promises.specs.Refusals.{letter_refusal}
 use Rattle.promises.specs.Marks.{mark_at, is_mark, mark_length, room_for, marks_in}
-use Rattle.promises.specs.MarkLaws.{mark_none, mark_some, entries_set}
+use Rattle.promises.proofs.MarkLaws.{mark_none, mark_some, entries_set}
 use Rattle.promises.specs.Book.{Book, Call, mark, back, lent, marked_book, back_book, write}
 use Rattle.promises.specs.Replies.{unless, or_refused, refusal_of, found_for, reply_to}
-use Rattle.promises.specs.BookLaws.{Case, taken, left, letter_cases, unless_zero, unless_not}
+use Rattle.promises.proofs.BookLaws.{Case, taken, left, letter_cases, unless_zero, unless_not}
 use Rattle.promises.specs.State.{numbers_of, with_marks, marks_of, with_mark, cut_to}
 use Rattle.promises.specs.Lent.{marked_as, MarksOn}
 use Rattle.promises.specs.Holds.{Holds}
-use Rattle.promises.specs.WritingLaws.{held_fits}
-use Rattle.promises.specs.BackLaws.{held_marks, cut_holds}
+use Rattle.promises.proofs.WritingLaws.{held_fits}
+use Rattle.promises.proofs.BackLaws.{held_marks, cut_holds}
 use Rattle.promises.specs.Promises.{Marking, MarkPromise, BackPromise}
 
 -- How a call goes on a book that the state holds: t is what the marks say, x the number where they say no; next and after are state and

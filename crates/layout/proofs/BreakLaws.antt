@@ -7,13 +7,13 @@ use Rattle.text.specs.Definitions.{decimal}
 use Rattle.text.specs.Decimal.{decimal_digits}
 use Rattle.layout.specs.Layout.{Every, none as every-none, Digit, NumberOutside, BreaksAt, number, byte}
 use Rattle.layout.specs.Reading.{State, start, is_digit, run, reach, number_at, breaks, reading}
-use Rattle.layout.specs.Entries.{length_snoc, every_append, every_snoc, every_of}
-use Rattle.layout.specs.Forward.{run_append, run_digits}
-use Rattle.layout.specs.Back.{digits_to, bytes_to, Led, back}
-use Rattle.layout.specs.ReadingLaws.{Read, breaks_at, reach_front, reach_stuck, reach_within, run_front, stops_law}
-use Rattle.layout.specs.Digits.{true_digit, digit_inside, DigitRun, digit_run, number_apart}
-use Rattle.layout.specs.Due.{in_digits, due, Numbering, numbering, other_end}
-use Rattle.layout.specs.NumberLaws.{among_digits}
+use Rattle.layout.proofs.Entries.{length_snoc, every_append, every_snoc, every_of}
+use Rattle.layout.proofs.Forward.{run_append, run_digits}
+use Rattle.layout.proofs.Back.{digits_to, bytes_to, Led, back}
+use Rattle.layout.proofs.ReadingLaws.{Read, breaks_at, reach_front, reach_stuck, reach_within, run_front, stops_law}
+use Rattle.layout.proofs.Digits.{true_digit, digit_inside, DigitRun, digit_run, number_apart}
+use Rattle.layout.proofs.Due.{in_digits, due, Numbering, numbering, other_end}
+use Rattle.layout.proofs.NumberLaws.{among_digits}
 
 -- A digit at r that cannot be read in a state that reads a number: that number is outside its range
 

@@ -16,13 +16,13 @@ use Rattle.text.specs.Definitions.{comma, decimal}
 use Rattle.layout.specs.Layout.{Every, more as every_more, Digit, opening, NumberDue, of_picks, of_sections, of_length, NumberOutside}
 use Rattle.layout.specs.Reading.{State, start, onward, in_number, step, run, one_past, reach}
 use Rattle.layout.specs.Reading.{is_digit, number_at, breaks, reading_of, reading}
-use Rattle.layout.specs.Entries.{length_snoc, every_at}
-use Rattle.layout.specs.Steps.{Numbered, digit, ended, numbered}
-use Rattle.layout.specs.Forward.{run_append}
-use Rattle.layout.specs.Back.{digits_to, digits_some, digits_on}
-use Rattle.layout.specs.ReadingLaws.{reach_read}
-use Rattle.layout.specs.Digits.{digit_true, true_digit, number_apart}
-use Rattle.layout.specs.Due.{in_digits, due}
+use Rattle.layout.proofs.Entries.{length_snoc, every_at}
+use Rattle.layout.proofs.Steps.{Numbered, digit, ended, numbered}
+use Rattle.layout.proofs.Forward.{run_append}
+use Rattle.layout.proofs.Back.{digits_to, digits_some, digits_on}
+use Rattle.layout.proofs.ReadingLaws.{reach_read}
+use Rattle.layout.proofs.Digits.{digit_true, true_digit, number_apart}
+use Rattle.layout.proofs.Due.{in_digits, due}
 
 -- Digits that say no number of the range are not all read: k of them are, and lead to the number `read`
 

@@ -12,8 +12,8 @@ use Rattle.text.specs.Decimal.{by_digits}
 use Rattle.layout.specs.Record.{Folded, fields_of, behind_commas, laid_out}
 use Rattle.layout.specs.Layout.{Every, none as every-none, more as every_more, Letter, Fits, Laid, opening}
 use Rattle.layout.specs.Reading.{State, in_picks, in_count, in_length, in_half, closed, start, onward, in_number, and_then, step, run}
-use Rattle.layout.specs.Entries.{length_snoc}
-use Rattle.layout.specs.Steps.{by_digit, by_comma, by_letter, by_section, by_end}
+use Rattle.layout.proofs.Entries.{length_snoc}
+use Rattle.layout.proofs.Steps.{by_digit, by_comma, by_letter, by_section, by_end}
 
 -- Bytes one behind another
 

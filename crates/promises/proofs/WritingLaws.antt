@@ -28,9 +28,9 @@ use Rattle.promises.specs.Lifts.{fixed_lifts, lift_in, lifted_by}
 use Rattle.promises.specs.Marks.{Marks, no_marks, entries}
 use Rattle.promises.specs.Book.{Book, book, started_book, fed_book, feed, load, lent, lifted, fed_lifted, feed_taken, load_taken, write}
 use Rattle.promises.specs.Replies.{fed_mask, fed_visits, refusal_of, refusal_to, found_for, reply_to}
-use Rattle.promises.specs.LiftLaws.{lifted_length, lifted_more}
-use Rattle.promises.specs.RefusalLaws.{start_fits, FeedFits, feed_fits}
-use Rattle.promises.specs.BookLaws.{Case, taken, left, feed_cases, load_cases, empty_taken, said_zero, said_not, unless_zero, unless_not}
+use Rattle.promises.proofs.LiftLaws.{lifted_length, lifted_more}
+use Rattle.promises.proofs.RefusalLaws.{start_fits, FeedFits, feed_fits}
+use Rattle.promises.proofs.BookLaws.{Case, taken, left, feed_cases, load_cases, empty_taken, said_zero, said_not, unless_zero, unless_not}
 use Rattle.promises.specs.State.{draft_in, centres_of, places_of, empty_under, fresh, arrays_of, state_with, with_lifts, code_in, with_pick}
 use Rattle.promises.specs.Lent.{started_as, loaded_as}
 use Rattle.promises.specs.Holds.{Holds}

@@ -14,9 +14,9 @@ use Rattle.layout.specs.Layout.{total, opening, Passes}
 use Rattle.layout.specs.Reading.{Reading, whole, breaks, reading}
 use Rattle.layout.specs.Yield.{turn_of, section_after, nothing_at, found_at, bytes_in, among, behind_count, yielded, yield_at, on_from, walk}
 use Rattle.layout.specs.Yield.{sections_in, place_after, Middle, on, between, Yields}
-use Rattle.layout.specs.Entries.{every_among}
-use Rattle.layout.specs.ReadingLaws.{laid_law}
-use Rattle.layout.specs.Places.{offset, offset_append, bytes_in_two, total_snoc, place_as, place_some}
+use Rattle.layout.proofs.Entries.{every_among}
+use Rattle.layout.proofs.ReadingLaws.{laid_law}
+use Rattle.layout.proofs.Places.{offset, offset_append, bytes_in_two, total_snoc, place_as, place_some}
 
 -- The section at a place
 

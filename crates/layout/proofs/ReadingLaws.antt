@@ -7,9 +7,9 @@ use Rattle.layout.specs.Record.{Folded}
 use Rattle.layout.specs.Layout.{Laid, Begins, Stops}
 use Rattle.layout.specs.Reading.{State, in_picks, in_count, in_length, in_half, closed, start, and_then, step, run, one_past, reach}
 use Rattle.layout.specs.Reading.{number_at, whole, breaks, reading_of, reading}
-use Rattle.layout.specs.Forward.{forward}
-use Rattle.layout.specs.Back.{back_closed}
-use Rattle.layout.specs.Finishing.{back_begins}
+use Rattle.layout.proofs.Forward.{forward}
+use Rattle.layout.proofs.Back.{back_closed}
+use Rattle.layout.proofs.Finishing.{back_begins}
 
 -- All of the bytes can be read
 

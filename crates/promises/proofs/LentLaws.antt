@@ -24,11 +24,12 @@ use Rattle.promises.specs.Replies.{unless, or_no_split, or_too_long, split_reply
 use Rattle.promises.specs.State.{numbers_of, with_lifts}
 use Rattle.promises.specs.Promises.{split_held, found_in, computed_to, LoadPromise}
 use Rattle.promises.specs.Lent.{loaded_as, LoadsOn, ReadsOn}
-use Rattle.promises.specs.LiftLaws.{zero_within, zero_behind}
-use Rattle.promises.specs.RefusalLaws.{or_else, or_first, table_fits, load_order}
-use Rattle.promises.specs.BookLaws.{unless_zero, unless_not}
-use Rattle.promises.specs.WritingLaws.{load_refused, load_taken_lem}
-use Rattle.promises.specs.ReadingLaws.{reads}
+use Rattle.promises.proofs.LiftLaws.{zero_within, zero_behind}
+use Rattle.promises.proofs.RefusalLaws.{or_first, table_fits, load_order}
+use Rattle.promises.specs.Refusals.{or_else}
+use Rattle.promises.proofs.BookLaws.{unless_zero, unless_not}
+use Rattle.promises.proofs.WritingLaws.{load_refused, load_taken_lem}
+use Rattle.promises.proofs.ReadingLaws.{reads}
 
 -- the number that the tests gave
 module _ (number : ℕ) {m : ℕ} (e : number ≡ m) where

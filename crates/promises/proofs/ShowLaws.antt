@@ -12,8 +12,8 @@ use Rattle.promises.specs.Answers.{gave, reply}
 use Rattle.promises.specs.Refusals.{line6, show_refusal}
 use Rattle.promises.specs.Replies.{section_of, shown, shown_behind}
 use Rattle.promises.specs.Promises.{ShowPromise}
-use Rattle.promises.specs.RefusalLaws.{show_fits}
-use Rattle.promises.specs.BookLaws.{unless_zero, unless_not}
+use Rattle.promises.proofs.RefusalLaws.{show_fits}
+use Rattle.promises.proofs.BookLaws.{unless_zero, unless_not}
 
 -- decisions
 

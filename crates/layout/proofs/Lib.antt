@@ -1,0 +1,15 @@
+pub mod Examples
+pub mod Entries
+pub mod Steps
+pub mod Forward
+pub mod Back
+pub mod Finishing
+pub mod ReadingLaws
+pub mod Digits
+pub mod Due
+pub mod NumberLaws
+pub mod BreakLaws
+pub mod UnfoldLaws
+pub mod WrittenLaws
+pub mod Places
+pub mod YieldLaws
