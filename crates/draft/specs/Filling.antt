@@ -10,7 +10,7 @@ use Rattle.words.proofs.Cases.{true_false}
 use Rattle.words.specs.Definitions.{most_sections, most_visits, word}
 use Rattle.words.specs.Computed.{longest}
 use Rattle.words.proofs.Laws.{longest_centre_lem, longest_is}
-use Rattle.models.specs.Centres.{longest_centre_at}
+use Rattle.models.proofs.Centres.{longest_centre_at}
 use Rattle.text.specs.Definitions.{line_end, digit_zero}
 use Rattle.promises.specs.declared.Draft.{Draft}
 use Rattle.promises.specs.declared.Started.{Started}

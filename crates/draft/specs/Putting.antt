@@ -3,7 +3,7 @@ use Rattle.std.specs.Prelude.{◌≡◌, List, [], ◌∷◌, ◌++◌, ℕ, ◌
 use Rattle.std.proofs.Common.{ap, zero-add, arith}
 use Rattle.std.proofs.Math.Seq.{take-append_seam}
 use Rattle.io.specs.Counts.{IsPrefixLen}
-use Rattle.models.specs.Stores.{sets_front}
+use Rattle.models.proofs.Stores.{sets_front}
 use Rattle.text.specs.Definitions.{comma, line_end, decimal}
 use Rattle.text.specs.Decimal.{most_digits}
 use Rattle.text.specs.Writes.{Writes, both, writes_length}

@@ -10,7 +10,7 @@ use crate::reflection::reflected_radius;
 use cells::{ByCentre, Centre, at_centre, centre_entry, minus, wide, within};
 
 // The centre of the longest ending, the paper's maxPal: the stored one, brought into range.
-#[tactic(auto, using(models::specs::Answers::longest_promised))]
+#[tactic(auto, using(models::proofs::Answers::longest_promised))]
 pub fn longest(n: usize, stored: Centre) -> Centre
     requires { n ≤ most_picks }
     ensures { LongestIs n stored.0 result.0 }
@@ -29,7 +29,7 @@ fn radius_from(radius: &ByCentre, n: usize, s: Centre, c: Centre) -> usize
 }
 
 // The radius of the longest mirrored stretch at c, the paper's rad.
-#[tactic(auto, using(models::specs::Answers::radius_promised))]
+#[tactic(auto, using(models::proofs::Answers::radius_promised))]
 pub fn radius_at(radius: &ByCentre, n: usize, stored: Centre, c: Centre) -> usize
     requires { n ≤ most_picks }
     ensures { RadiusIs radius.now n stored.0 c.0 result }

@@ -15,7 +15,6 @@ pub mod Scanning
 pub mod Unlinking
 pub mod Iterating
 -- the engine's laws
-pub mod Walking
 pub mod Stepping
 pub mod Splitting
 -- how code meets model

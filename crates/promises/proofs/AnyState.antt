@@ -15,9 +15,9 @@ use Rattle.words.specs.Definitions.{length_at, word}
 use Rattle.layout.specs.Record.{record_of}
 use Rattle.models.specs.Stores.{at}
 use Rattle.models.specs.Iterator.{longest_of, is_ending, period_at}
-use Rattle.models.specs.Iterating.{ending_high}
+use Rattle.models.proofs.Iterating.{ending_high}
 use Rattle.models.specs.Answers.{shorter_by}
-use Rattle.models.specs.SplitCode.{split_alike, split_ends}
+use Rattle.models.proofs.SplitCode.{split_alike, split_ends}
 use Rattle.promises.specs.declared.Draft.{Draft}
 use Rattle.promises.specs.Answers.{refused, Reply, reply}
 use Rattle.promises.specs.Book.{Query, ask, split, longest, mask, radius, next, fold, lift, lent}

@@ -11,8 +11,9 @@ use Rattle.std.proofs.Math.Seq.{length-take-le, append_snoc, sets}
 use Rattle.cells.specs.Lanes.{ByCentre, ByPlace}
 use Rattle.cells.specs.declared.Numbers.{Numbers}
 use Rattle.words.specs.Definitions.{most_picks, most_sections}
-use Rattle.models.specs.Stores.{sets_front}
-use Rattle.models.specs.Core.{Arrays, arrays_in, After, append, append_arrays, Appends}
+use Rattle.models.proofs.Stores.{sets_front}
+use Rattle.models.specs.Core.{Arrays, arrays_in, After, append, Appends}
+use Rattle.models.proofs.Core.{append_arrays}
 use Rattle.promises.specs.declared.Draft.{Draft}
 use Rattle.promises.specs.Lifts.{lift_in, lifted_by}
 use Rattle.promises.specs.Marks.{drop_longer, marks_in}

@@ -18,8 +18,8 @@ use Rattle.words.proofs.Laws.{least_period_lem, longest_is, longest_centre_lem, 
 use Rattle.words.proofs.FewVisits.{few_visits, visits_some}
 use Rattle.words.proofs.Visiting.{visit_leads, visit_next}
 use Rattle.words.proofs.Splits.{Splitting, given, lacking, split_law}
-use Rattle.models.specs.Core.{means}
-use Rattle.models.specs.Centres.{longest_centre_at}
+use Rattle.models.proofs.Core.{means}
+use Rattle.models.proofs.Centres.{longest_centre_at}
 use Rattle.promises.specs.declared.Draft.{Draft}
 use Rattle.promises.specs.declared.Started.{Started}
 use Rattle.promises.specs.declared.Fed.{Fed}

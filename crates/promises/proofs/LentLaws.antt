@@ -8,10 +8,12 @@ use Rattle.std.proofs.lemmas.List.Edits.{sets}
 use Rattle.cells.specs.declared.Numbers.{Numbers}
 use Rattle.words.specs.Definitions.{most_picks, most_sections, word, turn_count}
 use Rattle.words.specs.Ranges.{between}
-use Rattle.models.specs.Stores.{at, sets_front}
+use Rattle.models.specs.Stores.{at}
+use Rattle.models.proofs.Stores.{sets_front}
 use Rattle.models.specs.Iterator.{longest_of}
 use Rattle.models.specs.Splitting.{split_by}
-use Rattle.models.specs.SplitCode.{Stores, split_ends}
+use Rattle.models.specs.SplitCode.{Stores}
+use Rattle.models.proofs.SplitCode.{split_ends}
 use Rattle.promises.specs.declared.Draft.{Draft}
 use Rattle.promises.specs.declared.LoadAnswer.{LoadAnswer}
 use Rattle.promises.specs.declared.LoadAnswer.TheVariants.{InForce, Refused as LoadRefused, RefusedAt as LoadRefusedAt}

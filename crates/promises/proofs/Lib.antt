@@ -30,3 +30,4 @@ pub mod MarkingLaws
 pub mod ReadingLaws
 pub mod LentLaws
 pub mod ShowLaws
+pub mod Lifts

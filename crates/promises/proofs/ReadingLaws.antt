@@ -13,9 +13,9 @@ use Rattle.words.proofs.Prefixes.{Agree}
 use Rattle.models.specs.Stores.{at}
 use Rattle.models.specs.Scanning.{Radii}
 use Rattle.models.specs.Iterator.{longest_of}
-use Rattle.models.specs.Iterating.{in_range, longest_right, radius_right}
-use Rattle.models.specs.Answers.{endings, next_right}
-use Rattle.models.specs.Splitting.{split_right as split-by-right}
+use Rattle.models.proofs.Iterating.{in_range, longest_right, radius_right}
+use Rattle.models.proofs.Answers.{endings, next_right}
+use Rattle.models.proofs.Splitting.{split_right as split-by-right}
 use Rattle.promises.specs.declared.Draft.{Draft}
 use Rattle.promises.specs.Answers.{Reply, reply}
 use Rattle.layout.specs.Record.{laid_out, folded_of, record_of}

@@ -13,8 +13,9 @@ use Rattle.words.specs.Computed.{visits}
 use Rattle.words.specs.Computed.{mask as mask_of}
 use Rattle.words.proofs.Laws.{row_lt}
 use Rattle.words.proofs.Prefixes.{Agree}
-use Rattle.models.specs.Stores.{set_here, set_there}
-use Rattle.models.specs.Core.{Arrays, After, append, append_arrays, Appends, Means, means, held_none}
+use Rattle.models.proofs.Stores.{set_here, set_there}
+use Rattle.models.specs.Core.{Arrays, After, append, Appends, Means}
+use Rattle.models.proofs.Core.{append_arrays, means, held_none}
 use Rattle.models.specs.Core.{Holds as ArraysHold}
 use Rattle.promises.specs.declared.Draft.{Draft}
 use Rattle.promises.specs.declared.Started.{Started}

@@ -18,4 +18,3 @@ pub mod Marking
 pub mod Unread
 pub mod ReadBack
 pub mod Alike
-

@@ -2,7 +2,7 @@
 -- the input numbers in rising order but for 5, with 13 in the place of 3, then 8, 9 or 10, then 5; a load's are 7, 14, 15, 16; 17 and 18
 -- stand where 8 does. A call's number is that of the first test that fails, 0 where none does. Numbers 9, 10, a record's 5, 11 with its
 -- place, 17 and 18 hang on what is found: they are in Replies.antt, and so is the place of 15.
-use Rattle.std.specs.Prelude.{Bool, true, false, ◌&&◌, List, ℕ, ◌+◌, ◌*◌, leb, ltb, eqb, length}
+use Rattle.std.specs.Prelude.{Bool, true, false, ◌&&◌, List, ℕ, zero, suc, ◌+◌, ◌*◌, leb, ltb, eqb, length}
 use Rattle.std.proofs.Math.Bool.{decide}
 use Rattle.words.specs.Definitions.{most_picks, most_sections, most_visits, first_letter, last_letter}
 use Rattle.words.specs.Computed.{rising?}

@@ -1,5 +1,5 @@
 -- States: of given parts, the one that a start makes, and those that picks make of it.
-use Rattle.std.specs.Prelude.{List, [], ◌∷◌, ℕ, ◌+◌, take, set, replicate}
+use Rattle.std.specs.Prelude.{List, [], ◌∷◌, ℕ, suc, ◌+◌, take, set, replicate}
 use Rattle.words.specs.Definitions.{most_picks}
 use Rattle.cells.specs.Lanes.{ByCentre, ByPlace}
 use Rattle.cells.specs.declared.Numbers.{Numbers}

@@ -6,7 +6,7 @@ use Rattle.std.proofs.Common.{arith, add-one, drop_of_length-le, le-leb}
 use Rattle.std.proofs.lemmas.List.Edits.{sets}
 use Rattle.std.proofs.lemmas.Bool.{lt-leb}
 use Rattle.words.specs.Definitions.{stretch}
-use Rattle.models.specs.Stores.{sets_front}
+use Rattle.models.proofs.Stores.{sets_front}
 use Rattle.text.specs.Definitions.{comma, line_end, decimal}
 use Rattle.text.specs.Writes.{Writes, both}
 use Rattle.promises.specs.Answers.{gave, refused, reply}

@@ -3,7 +3,7 @@ use Rattle.std.specs.Prelude.{◌≡◌, List, [], ◌∷◌, ◌++◌, ℕ, suc
 use Rattle.std.proofs.Common.{sym, ap, ◌∙◌, arith, length-append, take-suc}
 use Rattle.std.proofs.lemmas.List.Edits.{sets}
 use Rattle.cells.specs.declared.Numbers.{Numbers}
-use Rattle.models.specs.Stores.{sets_append}
+use Rattle.models.proofs.Stores.{sets_append}
 use Rattle.promises.specs.declared.Draft.{Draft}
 use Rattle.promises.specs.declared.FeedAnswer.{FeedAnswer}
 use Rattle.promises.specs.declared.FeedAnswer.TheVariants.{Taken, Refused}

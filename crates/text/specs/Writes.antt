@@ -4,7 +4,7 @@ use Rattle.std.proofs.Common.{sym, ap, ◌∙◌, add-zero, arith, length-append
 use Rattle.std.proofs.lemmas.List.Edits.{sets}
 use Rattle.std.proofs.lemmas.List.{set_comm}
 use Rattle.std.proofs.Math.Seq.{length-sets}
-use Rattle.models.specs.Stores.{sets_append}
+use Rattle.models.proofs.Stores.{sets_append}
 
 -- What a writer does: it stores bytes in a list from a place on, and gives the place after them.
 pub record Writes (list : List ℕ) (place : ℕ) (bytes after : List ℕ) (next : ℕ) : Type 0 where

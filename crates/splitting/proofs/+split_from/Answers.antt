@@ -1,6 +1,6 @@
 use Rattle.std.proofs.Common.{◌-◌, arith}
 use Rattle.models.specs.Iterator.{longest_of}
-use Rattle.models.specs.SplitCode.{start_before, stores_none, stores_missing, stores_less, stores_more}
+use Rattle.models.proofs.SplitCode.{start_before, stores_none, stores_missing, stores_less, stores_more}
 use Rattle.splitting.proofs.+split_from.Goals as goal
 
 pub returns-then-k-eq0 : goal.returns-then-k-eq0

@@ -1,6 +1,6 @@
 use Rattle.std.proofs.Common.{◌∙◌, arith}
 use Rattle.models.specs.Iterator.{longest_of}
-use Rattle.models.specs.SplitCode.{first_on, first_here, first_end}
+use Rattle.models.proofs.SplitCode.{first_on, first_here, first_end}
 use Rattle.splitting.proofs.first_start.Goals as goal
 
 pub returns-then-starts_at : goal.returns-then-starts_at

@@ -1,5 +1,5 @@
 use Rattle.std.proofs.Common.{◌∙◌, arith}
-use Rattle.models.specs.SplitCode.{turns_more}
+use Rattle.models.proofs.SplitCode.{turns_more}
 use Rattle.splitting.proofs.turn_count.Goals as goal
 
 pub loop-j-preserved : goal.loop-j-preserved

@@ -1,7 +1,7 @@
 use Rattle.std.proofs.Common.{refl, ◌+◌}
 use Rattle.cells.specs.Lanes.{by_centre, by_place}
 use Rattle.models.specs.Engine.{stepped_as}
-use Rattle.models.specs.Core.{append_as, append_promised}
+use Rattle.models.proofs.Core.{append_as, append_promised}
 use Rattle.engine.proofs.append.append.Goals as goal
 
 pub returns : goal.returns

@@ -1,6 +1,6 @@
 use Rattle.cells.specs.Lanes.{by_place}
 use Rattle.models.specs.Engine.{seen_as}
-use Rattle.models.specs.EngineCode.{stepped_as_lem}
+use Rattle.models.proofs.EngineCode.{stepped_as_lem}
 use Rattle.engine.proofs.step.step.Goals as goal
 
 pub returns : goal.returns

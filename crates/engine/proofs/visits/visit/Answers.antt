@@ -1,7 +1,7 @@
 use Rattle.std.proofs.Common.{refl, ap, ◌∙◌, ◌+◌, ◌-◌, ◌%◌, bit_or, get_or}
 use Rattle.cells.specs.Lanes.{by_place}
 use Rattle.words.specs.Computed.{mended}
-use Rattle.models.specs.EngineCode.{mended_short, mended_long, next_long}
+use Rattle.models.proofs.EngineCode.{mended_short, mended_long, next_long}
 use Rattle.engine.proofs.visits.visit.Goals as goal
 
 pub returns-then-len-p-clause-word : goal.returns-then-len-p-clause-word

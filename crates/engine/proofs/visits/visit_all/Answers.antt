@@ -1,7 +1,7 @@
 use Rattle.std.proofs.Common.{refl, sym, ◌∙◌, ◌+◌, ◌<◌, arith, bit_or}
 use Rattle.cells.specs.Lanes.{by_place}
-use Rattle.models.specs.Walking.{walk_less}
-use Rattle.models.specs.EngineCode.{walk_on_lem, walk_end}
+use Rattle.models.proofs.Walking.{walk_less}
+use Rattle.models.proofs.EngineCode.{walk_on_lem, walk_end}
 use Rattle.engine.proofs.visits.visit_all.Goals as goal
 
 pub loop-len-smaller : goal.loop-len-smaller

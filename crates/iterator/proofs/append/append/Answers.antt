@@ -1,7 +1,7 @@
 use Rattle.std.proofs.Common.{◌∙◌}
 use Rattle.cells.specs.Lanes.{by_centre, by_place}
-use Rattle.models.specs.Answers.{letter_promised}
-use Rattle.models.specs.IteratorCode.{appended_as}
+use Rattle.models.proofs.Answers.{letter_promised}
+use Rattle.models.proofs.IteratorCode.{appended_as}
 use Rattle.iterator.proofs.append.append.Goals as goal
 
 pub returns-clause-appends_letter : goal.returns-clause-appends_letter

@@ -1,6 +1,6 @@
 use Rattle.std.proofs.Common.{sym, ◌∙◌}
 use Rattle.cells.specs.Lanes.{by_centre}
-use Rattle.models.specs.IteratorCode.{unlinks_on, unlinks_stop, unlinks_end}
+use Rattle.models.proofs.IteratorCode.{unlinks_on, unlinks_stop, unlinks_end}
 use Rattle.iterator.proofs.links.unlinks.Goals as goal
 
 pub returns-then-x-y : goal.returns-then-x-y

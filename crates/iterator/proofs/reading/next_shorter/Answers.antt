@@ -1,6 +1,6 @@
 use Rattle.std.proofs.Common.{sym, ◌∙◌}
-use Rattle.models.specs.Answers.{next_promised}
-use Rattle.models.specs.IteratorCode.{next_there, next_missing}
+use Rattle.models.proofs.Answers.{next_promised}
+use Rattle.models.proofs.IteratorCode.{next_there, next_missing}
 use Rattle.iterator.proofs.reading.next_shorter.Goals as goal
 
 pub returns-then-is_ending : goal.returns-then-is_ending

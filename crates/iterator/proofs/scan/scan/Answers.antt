@@ -1,6 +1,6 @@
 use Rattle.std.proofs.Common.{refl, sym, ◌∙◌, ◌+◌, ◌-◌, ◌*◌, arith}
 use Rattle.cells.specs.Lanes.{by_centre, by_place}
-use Rattle.models.specs.IteratorCode.{scan_found, scan_on, scan_end}
+use Rattle.models.proofs.IteratorCode.{scan_found, scan_on, scan_end}
 use Rattle.iterator.proofs.scan.scan.Goals as goal
 
 pub returns-then-extends-clause-places_after : goal.returns-then-extends-clause-places_after

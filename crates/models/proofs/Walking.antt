@@ -14,11 +14,13 @@ use Rattle.words.proofs.Lengths.{next_third}
 use Rattle.words.proofs.Series.{next_is}
 use Rattle.words.proofs.FewVisits.{Shrinking, one, next, few, nineteen}
 use Rattle.words.proofs.Proposition3.{gathered_kept, gathered_mended}
-use Rattle.models.specs.Centres.{EndingAt, LongestEndingAt, fore_next, ending_at, longest_ending}
+use Rattle.models.specs.Centres.{EndingAt, LongestEndingAt}
+use Rattle.models.proofs.Centres.{fore_next, ending_at, longest_ending}
 use Rattle.models.specs.Linked.{Linked}
 use Rattle.models.specs.Engine.{period_of, longest_length, Walked, walked, walk}
-use Rattle.models.specs.Iterating.{period_right}
-use Rattle.models.specs.Stores.{at, set_here, set_there}
+use Rattle.models.proofs.Iterating.{period_right}
+use Rattle.models.specs.Stores.{at}
+use Rattle.models.proofs.Stores.{set_here, set_there}
 
 -- The length of the longest ending
 

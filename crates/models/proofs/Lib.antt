@@ -1,0 +1,15 @@
+pub mod Answers
+pub mod Core
+pub mod Splitting
+pub mod Stores
+pub mod Centres
+pub mod Scanning
+pub mod Iterating
+pub mod Stepping
+pub mod Linked
+pub mod Reflection
+pub mod Unlinking
+pub mod Walking
+pub mod EngineCode
+pub mod IteratorCode
+pub mod SplitCode
