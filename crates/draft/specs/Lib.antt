@@ -2,5 +2,5 @@
 pub mod Lines
 pub mod Output
 pub mod Filling
--- how its lines are built
+-- the room of a line
 pub mod Putting

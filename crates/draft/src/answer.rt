@@ -1,11 +1,10 @@
 // One pick: it is fed, and its line is filled.
 ghost use Rattle.std.specs.Prelude.{◌≡◌, ◌+◌, ◌≤◌, length, take};
-ghost use Rattle.io.specs.Counts.{IsPrefixLen};
 ghost use Rattle.words.specs.Definitions.{most_picks};
 ghost use Rattle.cells.specs.Lanes.{by_centre, by_place};
 ghost use Rattle.promises.specs.State.{draft_in};
 ghost use Rattle.draft.specs.Filling.{ending_length, Tells, FillsOn};
-ghost use Rattle.draft.specs.Putting.{room};
+ghost use Rattle.draft.specs.Putting.{room, IsPrefixLen};
 
 use crate::line::{pick_line, refusal_line};
 use calls::feed::{Step, feed};
@@ -16,7 +15,7 @@ use promises::FeedAnswer;
 const FIRST_LINE: usize = 2;
 
 // What becomes of a pick: whether the run is over, the numbers of the state, and the count of its line's bytes.
-#[derive(Drop)]
+#[derive(Clone, Copy)]
 pub struct Answered {
     pub over: bool,
     pub numbers: Numbers,

@@ -1,11 +1,11 @@
 // The lines that are printed: each is built first and then written as one.
 ghost use Rattle.std.specs.Prelude.{◌≡◌, ◌+◌, ◌≤◌, length, take};
-ghost use Rattle.io.specs.Counts.{IsPrefixLen};
 ghost use Rattle.text.specs.Writes.{Writes};
 ghost use Rattle.draft.specs.Lines.{header_line, field, pick_line, refusal_line};
-ghost use Rattle.draft.specs.Putting.{most_field, room};
+ghost use Rattle.draft.specs.Putting.{most_field, room, IsPrefixLen};
 
-use libc::STDOUT_FILENO;
+use std::io;
+use std::io::Write;
 use text::bytes::{write_byte, write_bytes};
 use text::decimal::write_decimal;
 use text::{COMMA, LINE_END};
@@ -56,15 +56,15 @@ fn header_line(line: &mut [u8]) -> usize
 }
 
 // Writes the header.
-pub fn print_header() {
+pub fn print_header(output: &mut impl Write) -> io::Result<()> {
     let mut line = [0u8; ROOM];
     let count = header_line(&mut line);
-    io::write_all(STDOUT_FILENO, &line[..count]);
+    output.write_all(&line[..count])
 }
 
 // Writes the line of a refusal.
-pub fn print_refusal(number: u8, place: usize) {
+pub fn print_refusal(number: u8, place: usize, output: &mut impl Write) -> io::Result<()> {
     let mut line = [0u8; ROOM];
     let count = refusal_line(number, place, &mut line);
-    io::write_all(STDOUT_FILENO, &line[..count]);
+    output.write_all(&line[..count])
 }

@@ -2,19 +2,21 @@
 #![tactic(auto)]
 
 use refusals::start_refusal;
+use std::io;
 
 mod answer;
 mod input;
 mod line;
 mod picks;
 
-fn main() {
-    line::print_header();
-    let k = input::first_line();
+fn main(rt: HostRuntime) -> io::Result<()> {
+    let mut input = rt.stdin();
+    let mut output = rt.stdout();
+    line::print_header(&mut output)?;
+    let k = input::first_line(&mut input);
     let number = start_refusal(k);
     if 0 < number {
-        line::print_refusal(number, 0);
-        return;
+        return line::print_refusal(number, 0, &mut output);
     }
-    picks::run(k);
+    picks::run(k, &mut input, &mut output)
 }

@@ -1,5 +1,5 @@
 // The picks, one after another, on a state whose parts are lent to the board's calls.
-ghost use Rattle.std.specs.Prelude.{◌≡◌, false, ◌+◌, ◌≤◌};
+ghost use Rattle.std.specs.Prelude.{◌≡◌, false, ◌+◌, ◌≤◌, IfOk};
 ghost use Rattle.words.specs.Definitions.{most_picks};
 
 use crate::answer::{Answered, answer};
@@ -9,7 +9,8 @@ use calls::start::start;
 use cells::{
     ALPHABET, CENTRE_LANES, Centre, Centres, Letters, Lifts, Numbers, PICKS, PLACE_LANES, Places,
 };
-use libc::STDOUT_FILENO;
+use std::io;
+use std::io::{Read, Write};
 
 // Feeds the pick after those that `held` tells and writes its line.
 fn take_pick(
@@ -20,17 +21,18 @@ fn take_pick(
     places: &mut Places,
     held: Numbers,
     pick: u8,
-) -> Answered
+    output: &mut impl Write,
+) -> io::Result<Answered>
     requires { held.n ≤ most_picks }
-    ensures { result.over ≡ false → result.numbers.n ≡ held.n + 1 }
+    ensures { IfOk result (λ answered. answered.over ≡ false → answered.numbers.n ≡ held.n + 1) }
 {
     let mut line = [0u8; ROOM];
     let answered = answer(
         letters, codes, lifts, centres, places, &mut line, held, pick,
     );
     let bytes = answered.bytes;
-    io::write_all(STDOUT_FILENO, &line[..bytes]);
-    answered
+    output.write_all(&line[..bytes])?;
+    Ok(answered)
 }
 
 // Takes the picks of the input one by one, into a draft that is empty yet. Pick 2,049 is refused, so it is the last.
@@ -41,22 +43,25 @@ fn take_picks(
     centres: &mut Centres,
     places: &mut Places,
     empty: Numbers,
-) {
+    input: &mut impl Read,
+    output: &mut impl Write,
+) -> io::Result<()> {
     let mut held = empty;
     while held.n <= PICKS {
-        let Input::Byte(pick) = next_pick() else {
-            return;
+        let Input::Byte(pick) = next_pick(input) else {
+            return Ok(());
         };
-        let answered = take_pick(letters, codes, lifts, centres, places, held, pick);
+        let answered = take_pick(letters, codes, lifts, centres, places, held, pick, output)?;
         if answered.over {
-            return;
+            return Ok(());
         }
         held = answered.numbers;
     }
+    Ok(())
 }
 
 // Starts a draft with K and takes its picks. The arrays are here, and every call is lent them.
-pub fn run(k: u8) {
+pub fn run(k: u8, input: &mut impl Read, output: &mut impl Write) -> io::Result<()> {
     let mut letters = [0u8; PICKS];
     let mut codes = [0u8; PICKS];
     let mut lifts = [0u8; ALPHABET];
@@ -86,5 +91,7 @@ pub fn run(k: u8) {
         &mut centres,
         &mut places,
         numbers,
-    );
+        input,
+        output,
+    )
 }

@@ -8,6 +8,8 @@ use promises::{
     CentreAnswer, Draft, FeedAnswer, MaskAnswer, NextAnswer, RadiusAnswer, RecordAnswer,
     SplitAnswer,
 };
+use std::io;
+use std::io::Write;
 
 // What is stored before a start: no draft.
 pub fn stored() -> Draft {
@@ -37,177 +39,177 @@ pub fn started() -> Draft {
 }
 
 // The answer to a feed, and the pick's visits.
-pub fn say_fed(answer: FeedAnswer, visits: &[u16]) {
+pub fn say_fed(answer: FeedAnswer, visits: &[u16], out: &mut impl Write) -> io::Result<()> {
     match answer {
         FeedAnswer::Taken(mask, count) => {
-            text(b" mask");
-            number(mask as usize);
-            text(b" visits");
-            front(visits, count);
+            text(b" mask", out)?;
+            number(mask as usize, out)?;
+            text(b" visits", out)?;
+            front(visits, count, out)
         }
-        FeedAnswer::Refused(x) => refusal(x),
+        FeedAnswer::Refused(x) => refusal(x, out),
     }
 }
 
 // Feeds one pick, and prints the picks so far and the answer.
-pub fn one_more(draft: Draft, picks: &[u8], pick: u8) -> Draft {
+pub fn one_more(draft: Draft, picks: &[u8], pick: u8, out: &mut impl Write) -> io::Result<Draft> {
     let mut visits = [0u16; VISITS];
     let r = board::feed(draft, pick, &mut visits);
-    text(picks);
+    text(picks, out)?;
     let answer = r.answer;
-    say_fed(answer, &visits);
-    text(b"\n");
+    say_fed(answer, &visits, out)?;
+    text(b"\n", out)?;
     let state = r.state;
-    state
+    Ok(state)
 }
 
 // Feeds the picks one after another.
-fn fed(picks: &[u8]) -> Draft {
+fn fed(picks: &[u8], out: &mut impl Write) -> io::Result<Draft> {
     let mut draft = started();
     let mut j = 0usize;
     while j < picks.len() {
         let end = j + 1;
-        draft = one_more(draft, &picks[..end], picks[j]);
+        draft = one_more(draft, &picks[..end], picks[j], out)?;
         j = end;
     }
-    draft
+    Ok(draft)
 }
 
 // The mask of all picks.
-pub fn say_mask(draft: Draft) {
+pub fn say_mask(draft: Draft, out: &mut impl Write) -> io::Result<()> {
     let n = draft.n;
-    text(b"mask of prefix");
-    number(n);
+    text(b"mask of prefix", out)?;
+    number(n, out)?;
     let a = board::mask(draft, Place(n));
     match a {
-        MaskAnswer::Mask(mask) => number(mask as usize),
-        MaskAnswer::Refused(x) => refusal(x),
+        MaskAnswer::Mask(mask) => number(mask as usize, out)?,
+        MaskAnswer::Refused(x) => refusal(x, out)?,
     }
-    text(b"\n");
+    text(b"\n", out)
 }
 
 // The split of all picks into k, with this ends list.
-fn say_split(draft: Draft, k: u8, ends: &mut [u16]) {
+fn say_split(draft: Draft, k: u8, ends: &mut [u16], out: &mut impl Write) -> io::Result<()> {
     let n = draft.n;
-    text(b"split into");
-    number(k as usize);
+    text(b"split into", out)?;
+    number(k as usize, out)?;
     let a = board::split(draft, Place(n), k, ends);
     match a {
         SplitAnswer::Split(turns) => {
-            text(b" turns");
-            number(turns);
-            text(b" ends");
-            front(ends, ends.len());
+            text(b" turns", out)?;
+            number(turns, out)?;
+            text(b" ends", out)?;
+            front(ends, ends.len(), out)?;
         }
-        SplitAnswer::Refused(x) => refusal(x),
+        SplitAnswer::Refused(x) => refusal(x, out)?,
     }
-    text(b"\n");
+    text(b"\n", out)
 }
 
 // The same, with a list of k entries.
-fn split_into(draft: Draft, k: u8)
+fn split_into(draft: Draft, k: u8, out: &mut impl Write) -> io::Result<()>
     requires { k ≤ most_sections }
 {
     let count = k as usize;
     let mut ends = [0u16; 8];
-    say_split(draft, k, &mut ends[..count]);
+    say_split(draft, k, &mut ends[..count], out)
 }
 
 // Every k from 1 to 8.
-fn split_each(draft: Draft) {
-    split_into(draft, 1);
-    split_into(draft, 2);
-    split_into(draft, 3);
-    split_into(draft, 4);
-    split_into(draft, 5);
-    split_into(draft, 6);
-    split_into(draft, 7);
-    split_into(draft, 8);
+fn split_each(draft: Draft, out: &mut impl Write) -> io::Result<()> {
+    split_into(draft, 1, out)?;
+    split_into(draft, 2, out)?;
+    split_into(draft, 3, out)?;
+    split_into(draft, 4, out)?;
+    split_into(draft, 5, out)?;
+    split_into(draft, 6, out)?;
+    split_into(draft, 7, out)?;
+    split_into(draft, 8, out)
 }
 
-fn say_longest(draft: Draft) {
-    text(b"longest ending at");
+fn say_longest(draft: Draft, out: &mut impl Write) -> io::Result<()> {
+    text(b"longest ending at", out)?;
     let a = board::longest(draft);
     match a {
-        CentreAnswer::At(c) => number(c.0),
-        CentreAnswer::Refused(x) => refusal(x),
+        CentreAnswer::At(c) => number(c.0, out)?,
+        CentreAnswer::Refused(x) => refusal(x, out)?,
     }
-    text(b"\n");
+    text(b"\n", out)
 }
 
-fn say_next(draft: Draft, c: usize) {
-    text(b"next after");
-    number(c);
+fn say_next(draft: Draft, c: usize, out: &mut impl Write) -> io::Result<()> {
+    text(b"next after", out)?;
+    number(c, out)?;
     let a = board::next(draft, Centre(c));
     match a {
         NextAnswer::Shorter(d, length, period) => {
-            number(d.0);
-            text(b" length");
-            number(length);
-            text(b" period");
-            number(period);
+            number(d.0, out)?;
+            text(b" length", out)?;
+            number(length, out)?;
+            text(b" period", out)?;
+            number(period, out)?;
         }
-        NextAnswer::Refused(x) => refusal(x),
+        NextAnswer::Refused(x) => refusal(x, out)?,
     }
-    text(b"\n");
+    text(b"\n", out)
 }
 
-fn say_radius(draft: Draft, c: usize) {
-    text(b"radius at");
-    number(c);
+fn say_radius(draft: Draft, c: usize, out: &mut impl Write) -> io::Result<()> {
+    text(b"radius at", out)?;
+    number(c, out)?;
     let a = board::radius(draft, Centre(c));
     match a {
-        RadiusAnswer::Radius(r) => number(r),
-        RadiusAnswer::Refused(x) => refusal(x),
+        RadiusAnswer::Radius(r) => number(r, out)?,
+        RadiusAnswer::Refused(x) => refusal(x, out)?,
     }
-    text(b"\n");
+    text(b"\n", out)
 }
 
 // The record of all picks in 2 sections, and the output as it then stands.
-fn say_record(draft: Draft, output: &mut [u8]) {
+fn say_record(draft: Draft, output: &mut [u8], out: &mut impl Write) -> io::Result<()> {
     let n = draft.n;
-    text(b"record");
+    text(b"record", out)?;
     let a = board::fold(draft, Place(n), 2, output);
     match a {
-        RecordAnswer::Written(bytes) => number(bytes),
-        RecordAnswer::Refused(x) => refusal(x),
+        RecordAnswer::Written(bytes) => number(bytes, out)?,
+        RecordAnswer::Refused(x) => refusal(x, out)?,
     }
-    text(b" ");
-    text(output);
+    text(b" ", out)?;
+    text(output, out)
 }
 
 // ABACDDC: split, moved, record.
-fn two_sections() {
-    let draft = fed(b"ABACDDC");
-    split_into(draft, 2);
-    say_longest(draft);
+fn two_sections(out: &mut impl Write) -> io::Result<()> {
+    let draft = fed(b"ABACDDC", out)?;
+    split_into(draft, 2, out)?;
+    say_longest(draft, out)?;
     let mut output = [46u8; 14];
-    say_record(draft, &mut output);
+    say_record(draft, &mut output, out)?;
     let mut short = [46u8; 13];
-    say_record(draft, &mut short);
-    text(b"\n");
+    say_record(draft, &mut short, out)?;
+    text(b"\n", out)
 }
 
 // AABACABAA: radii, and the endings one after the other.
-fn centres() {
-    let draft = fed(b"AABACABAA");
-    say_radius(draft, 10);
-    say_radius(draft, 11);
-    say_radius(draft, 3);
-    say_radius(draft, 20);
-    say_longest(draft);
-    say_next(draft, 10);
-    say_next(draft, 17);
-    say_next(draft, 18);
-    say_next(draft, 19);
+fn centres(out: &mut impl Write) -> io::Result<()> {
+    let draft = fed(b"AABACABAA", out)?;
+    say_radius(draft, 10, out)?;
+    say_radius(draft, 11, out)?;
+    say_radius(draft, 3, out)?;
+    say_radius(draft, 20, out)?;
+    say_longest(draft, out)?;
+    say_next(draft, 10, out)?;
+    say_next(draft, 17, out)?;
+    say_next(draft, 18, out)?;
+    say_next(draft, 19, out)
 }
 
-pub fn run() {
+pub fn run(out: &mut impl Write) -> io::Result<()> {
     let empty = started();
-    say_mask(empty);
-    split_each(empty);
-    split_into(fed(b"AAA"), 2);
-    say_mask(fed(b"ABABABA"));
-    two_sections();
-    centres();
+    say_mask(empty, out)?;
+    split_each(empty, out)?;
+    split_into(fed(b"AAA", out)?, 2, out)?;
+    say_mask(fed(b"ABABABA", out)?, out)?;
+    two_sections(out)?;
+    centres(out)
 }

@@ -3,6 +3,8 @@ use crate::drafts::{say_fed, started, stored};
 use crate::print::{refusal, text};
 use cells::{PICKS, VISITS};
 use promises::{Draft, StartAnswer};
+use std::io;
+use std::io::Write;
 
 // A draft of 2,048 picks.
 fn full() -> Draft {
@@ -17,39 +19,39 @@ fn full() -> Draft {
 }
 
 // Feeds a pick with this visit list, and prints the answer.
-fn say_feed(draft: Draft, pick: u8, visits: &mut [u16]) {
-    text(b"feed");
+fn say_feed(draft: Draft, pick: u8, visits: &mut [u16], out: &mut impl Write) -> io::Result<()> {
+    text(b"feed", out)?;
     let r = board::feed(draft, pick, visits);
     let answer = r.answer;
-    say_fed(answer, visits);
-    text(b"\n");
+    say_fed(answer, visits, out)?;
+    text(b"\n", out)
 }
 
 // Starts with K, and prints the answer.
-fn say_start(k: u8) {
-    text(b"start");
+fn say_start(k: u8, out: &mut impl Write) -> io::Result<()> {
+    text(b"start", out)?;
     let s = board::start(stored(), k);
     let answer = s.answer;
     match answer {
-        StartAnswer::Begun => text(b" begun"),
-        StartAnswer::Refused(x) => refusal(x),
+        StartAnswer::Begun => text(b" begun", out)?,
+        StartAnswer::Refused(x) => refusal(x, out)?,
     }
-    text(b"\n");
+    text(b"\n", out)
 }
 
-pub fn run() {
+pub fn run(out: &mut impl Write) -> io::Result<()> {
     let mut visits = [0u16; VISITS];
     let mut short = [0u16; VISITS - 1];
     let draft = started();
-    say_feed(draft, 65, &mut visits);
-    say_feed(draft, 65, &mut short);
-    say_feed(draft, 64, &mut visits);
-    say_feed(draft, 91, &mut visits);
-    say_feed(draft, 90, &mut visits);
-    say_feed(full(), 65, &mut visits);
-    say_feed(stored(), 65, &mut visits);
-    say_start(0);
-    say_start(1);
-    say_start(8);
-    say_start(9);
+    say_feed(draft, 65, &mut visits, out)?;
+    say_feed(draft, 65, &mut short, out)?;
+    say_feed(draft, 64, &mut visits, out)?;
+    say_feed(draft, 91, &mut visits, out)?;
+    say_feed(draft, 90, &mut visits, out)?;
+    say_feed(full(), 65, &mut visits, out)?;
+    say_feed(stored(), 65, &mut visits, out)?;
+    say_start(0, out)?;
+    say_start(1, out)?;
+    say_start(8, out)?;
+    say_start(9, out)
 }

@@ -2,15 +2,18 @@
 // to the file stdout.
 #![tactic(auto)]
 
+use std::io;
+
 mod drafts;
 mod lifts;
 mod limits;
 mod marks;
 mod print;
 
-fn main() {
-    drafts::run();
-    limits::run();
-    lifts::run();
-    marks::run();
+fn main(rt: HostRuntime) -> io::Result<()> {
+    let mut out = rt.stdout();
+    drafts::run(&mut out)?;
+    limits::run(&mut out)?;
+    lifts::run(&mut out)?;
+    marks::run(&mut out)
 }

@@ -1,26 +1,27 @@
 // What is printed: text, numbers, and the front of a list.
 use cells::{at, wide};
-use libc::STDOUT_FILENO;
+use std::io;
+use std::io::Write;
 
-pub fn text(bytes: &[u8]) {
-    io::write_all(STDOUT_FILENO, bytes);
+pub fn text(bytes: &[u8], out: &mut impl Write) -> io::Result<()> {
+    out.write_all(bytes)
 }
 
 // A number behind a blank.
-pub fn number(n: usize) {
-    text(b" ");
-    io::print_decimal(STDOUT_FILENO, n as u64);
+pub fn number(n: usize, out: &mut impl Write) -> io::Result<()> {
+    write!(out, " {n}")
 }
 
 // The first entries of a list.
-pub fn front(list: &[u16], count: usize) {
+pub fn front(list: &[u16], count: usize, out: &mut impl Write) -> io::Result<()> {
     for j in 0..count {
-        number(wide(at(list, j)));
+        number(wide(at(list, j)), out)?;
     }
+    Ok(())
 }
 
 // A refusal's number.
-pub fn refusal(number: u8) {
-    text(b" refused");
-    self::number(number as usize);
+pub fn refusal(number: u8, out: &mut impl Write) -> io::Result<()> {
+    text(b" refused", out)?;
+    self::number(number as usize, out)
 }
