@@ -23,7 +23,7 @@ use promises::{MarkAnswer, NO_MARK};
 use refusals::letter_refusal;
 
 // The answer, and the numbers of the state.
-#[derive(Drop)]
+#[derive(Clone, Copy)]
 pub struct Return {
     pub answer: MarkAnswer,
     pub numbers: Numbers,

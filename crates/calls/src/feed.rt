@@ -14,7 +14,7 @@ use promises::FeedAnswer;
 use refusals::feed_refusal;
 
 // The answer, and the numbers of the state.
-#[derive(Drop)]
+#[derive(Clone, Copy)]
 pub struct Step {
     pub answer: FeedAnswer,
     pub numbers: Numbers,

@@ -16,7 +16,7 @@ use promises::StartAnswer;
 use refusals::start_refusal;
 
 // The answer, and the numbers of the state.
-#[derive(Drop)]
+#[derive(Clone, Copy)]
 pub struct Begin {
     pub answer: StartAnswer,
     pub numbers: Numbers,
