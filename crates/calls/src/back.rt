@@ -95,6 +95,7 @@ fn feed_again(
     held
 }
 
+#[tactic(auto, using(promises::specs::RefusalLaws::letter_passed))]
 pub fn back(
     letters: &mut Letters,
     codes: &mut Letters,

@@ -1,0 +1,30 @@
+use Rattle.std.proofs.Common.{◌≡◌, refl, arith, length}
+use Rattle.promises.specs.Refusals.{feed_refusal}
+use Rattle.promises.specs.RefusalLaws.{FeedFits, feed_fits}
+use Rattle.promises.specs.WritingLaws.{feed_refused, feed_taken_lem}
+use Rattle.calls.proofs.feed.feed.Goals as goal
+
+pub returns-then-number-gt0 : goal.returns-then-number-gt0
+returns-then-number-gt0 c marks =
+    let f = c.feed_refusal-number in
+    feed_refused _ c.args.pick c.args.visits.now f.result f.ensures c.if-number-gt0.true
+
+pub append-a-requires : goal.append-a-requires
+append-a-requires c =
+    let p = c.args in
+    let g = feed_fits p.held.n p.held.k p.pick (length p.visits.now) (omega (arith, c.feed_refusal-number.ensures, c.if-number-gt0.false)) in
+    (g.room, g.state.most)
+
+pub taken-requires : goal.taken-requires
+taken-requires c =
+    let p = c.args in
+    (feed_fits p.held.n p.held.k p.pick (length p.visits.now) (omega (arith, c.feed_refusal-number.ensures, c.if-number-gt0.false))).room
+
+pub returns : goal.returns
+returns c marks =
+    let f = c.feed_refusal-number in
+    let i = c.lift_in-code in
+    let r = c.taken.ensures in
+    rw (r.0, r.1, r.2, r.3)
+    (feed_taken_lem _ c.args.pick c.args.visits.now f.result f.ensures c.if-number-gt0.false _ _ refl refl c.store_letter.ensures
+    refl refl refl i.result i.ensures c.append-a.ensures)
