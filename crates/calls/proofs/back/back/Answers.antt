@@ -1,4 +1,4 @@
-use Rattle.std.proofs.Common.{◌≡◌, refl, ap, ◌∙◌, arith, ◌-◌, min, length}
+use Rattle.std.proofs.Common.{◌≡◌, ap, ◌∙◌, arith, ◌-◌, min, length}
 use Rattle.words.specs.Definitions.{most_picks}
 use Rattle.promises.specs.RefusalLaws.{letter_passed}
 use Rattle.promises.specs.BackLaws.{back_state}

@@ -1,6 +1,4 @@
-use Rattle.std.proofs.Common.{◌≡◌, refl, arith, length}
-use Rattle.promises.specs.Refusals.{feed_refusal}
-use Rattle.promises.specs.RefusalLaws.{FeedFits, feed_fits}
+use Rattle.std.proofs.Common.{refl}
 use Rattle.promises.specs.WritingLaws.{feed_refused, feed_taken_lem}
 use Rattle.calls.proofs.feed.feed.Goals as goal
 
@@ -8,17 +6,6 @@ pub returns-then-number-gt0 : goal.returns-then-number-gt0
 returns-then-number-gt0 c marks =
     let f = c.feed_refusal-number in
     feed_refused _ c.args.pick c.args.visits.now f.result f.ensures c.if-number-gt0.true
-
-pub append-a-requires : goal.append-a-requires
-append-a-requires c =
-    let p = c.args in
-    let g = feed_fits p.held.n p.held.k p.pick (length p.visits.now) (omega (arith, c.feed_refusal-number.ensures, c.if-number-gt0.false)) in
-    (g.room, g.state.most)
-
-pub taken-requires : goal.taken-requires
-taken-requires c =
-    let p = c.args in
-    (feed_fits p.held.n p.held.k p.pick (length p.visits.now) (omega (arith, c.feed_refusal-number.ensures, c.if-number-gt0.false))).room
 
 pub returns : goal.returns
 returns c marks =
