@@ -49,6 +49,7 @@ fn drop_longer(marks: &mut [u16], top: u16)
 }
 
 // The first `kept` letters, and 0 behind them.
+#[tactic(auto, using(promises::specs::BackLaws::cut_more, promises::specs::BackLaws::cut_all))]
 fn cut(letters: &mut [u8], kept: usize)
     requires { kept ≤ length letters.old }
     ensures { letters.new ≡ sets (replicate (length letters.old) 0) 0 (take kept letters.old) }
@@ -61,6 +62,7 @@ fn cut(letters: &mut [u8], kept: usize)
 }
 
 // Feeds the first `kept` letters to the arrays of no letter. Nobody asks for the visits.
+#[tactic(auto, using(promises::specs::BackLaws::again_all))]
 fn feed_again(
     letters: &Letters,
     codes: &mut Letters,

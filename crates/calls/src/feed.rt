@@ -38,7 +38,7 @@ fn taken(a: Appended, held: Numbers) -> Step
 }
 
 // The letter is stored as it is; the engine takes the pick's lift in force.
-#[tactic(auto, using(promises::specs::RefusalLaws::feed_fits))]
+#[tactic(auto, using(promises::specs::RefusalLaws::feed_fits, promises::specs::WritingLaws::feed_refused))]
 pub fn feed(
     letters: &mut Letters,
     codes: &mut Letters,

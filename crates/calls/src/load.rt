@@ -22,6 +22,7 @@ fn first_zero(table: &[u8]) -> usize
     j
 }
 
+#[tactic(auto, using(promises::specs::LentLaws::table_refused, promises::specs::LentLaws::zero_refused, promises::specs::LentLaws::begun_refused, promises::specs::LentLaws::table_taken))]
 pub fn load(lifts: &mut Lifts, held: Numbers, table: &[u8]) -> LoadAnswer
     ensures { LoadsOn held lifts.old table.now result lifts.new }
 {

@@ -53,6 +53,7 @@ fn clear_tables(letters: &mut Letters, lifts: &mut Lifts, marks: &mut Marks)
 }
 
 // A start on whatever is stored: `held` are the numbers stored.
+#[tactic(auto, using(promises::specs::WritingLaws::start_refused))]
 pub fn start(
     letters: &mut Letters,
     codes: &mut Letters,

@@ -1,6 +1,6 @@
-use Rattle.std.proofs.Common.{refl, sym, ap, ◌∙◌, arith}
+use Rattle.std.proofs.Common.{refl, ap, ◌∙◌, arith}
 use Rattle.promises.specs.Lifts.{lift_in}
-use Rattle.promises.specs.BackLaws.{again_one, again_all}
+use Rattle.promises.specs.BackLaws.{again_one}
 use Rattle.calls.proofs.back.feed_again.Goals as goal
 
 pub loop-held-preserved : goal.loop-held-preserved
@@ -14,13 +14,4 @@ loop-held-preserved c =
       again_one g.k l.held.n g.kept i.result g.lifts.now g.letters.now c.loop-held-test.true c.requires.2 code l.invariant.0
           c.append-a.ensures
           ∙ l.invariant.2,
-    )
-
-pub returns : goal.returns
-returns c =
-    let g = c.args in
-    let l = c.loop-held in (
-      omega arith,
-      l.invariant.0,
-      sym (again_all g.k l.held.n g.kept g.lifts.now g.letters.now _ c.loop-held-test.false) ∙ l.invariant.2,
     )

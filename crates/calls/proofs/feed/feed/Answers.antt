@@ -1,11 +1,6 @@
 use Rattle.std.proofs.Common.{refl}
-use Rattle.promises.specs.WritingLaws.{feed_refused, feed_taken_lem}
+use Rattle.promises.specs.WritingLaws.{feed_taken_lem}
 use Rattle.calls.proofs.feed.feed.Goals as goal
-
-pub returns-then-number-gt0 : goal.returns-then-number-gt0
-returns-then-number-gt0 c marks =
-    let f = c.feed_refusal-number in
-    feed_refused _ c.args.pick c.args.visits.now f.result f.ensures c.if-number-gt0.true
 
 pub returns : goal.returns
 returns c marks =

@@ -1,10 +1,5 @@
-use Rattle.promises.specs.WritingLaws.{start_refused, start_begun_in}
+use Rattle.promises.specs.WritingLaws.{start_begun_in}
 use Rattle.calls.proofs.start.start.Goals as goal
-
-pub returns-then-number-gt0 : goal.returns-then-number-gt0
-returns-then-number-gt0 c =
-    let f = c.start_refusal-number in
-    start_refused _ c.args.k f.result f.ensures c.if-number-gt0.true
 
 pub returns : goal.returns
 returns c =
