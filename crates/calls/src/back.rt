@@ -23,7 +23,7 @@ use promises::{MarkAnswer, NO_MARK};
 use refusals::letter_refusal;
 
 // The answer, and the numbers of the state.
-#[derive(Drop)]
+#[derive(Clone, Copy)]
 pub struct Return {
     pub answer: MarkAnswer,
     pub numbers: Numbers,
@@ -49,6 +49,7 @@ fn drop_longer(marks: &mut [u16], top: u16)
 }
 
 // The first `kept` letters, and 0 behind them.
+#[tactic(auto, using(promises::proofs::BackLaws::cut_more, promises::proofs::BackLaws::cut_all))]
 fn cut(letters: &mut [u8], kept: usize)
     requires { kept ≤ length letters.old }
     ensures { letters.new ≡ sets (replicate (length letters.old) 0) 0 (take kept letters.old) }
@@ -61,6 +62,7 @@ fn cut(letters: &mut [u8], kept: usize)
 }
 
 // Feeds the first `kept` letters to the arrays of no letter. Nobody asks for the visits.
+#[tactic(auto, using(promises::proofs::BackLaws::again_all))]
 fn feed_again(
     letters: &Letters,
     codes: &mut Letters,
@@ -95,6 +97,7 @@ fn feed_again(
     held
 }
 
+#[tactic(auto, using(promises::proofs::RefusalLaws::letter_passed))]
 pub fn back(
     letters: &mut Letters,
     codes: &mut Letters,

@@ -14,7 +14,7 @@ use promises::FeedAnswer;
 use refusals::feed_refusal;
 
 // The answer, and the numbers of the state.
-#[derive(Drop)]
+#[derive(Clone, Copy)]
 pub struct Step {
     pub answer: FeedAnswer,
     pub numbers: Numbers,
@@ -38,6 +38,7 @@ fn taken(a: Appended, held: Numbers) -> Step
 }
 
 // The letter is stored as it is; the engine takes the pick's lift in force.
+#[tactic(auto, using(promises::proofs::RefusalLaws::feed_fits, promises::proofs::WritingLaws::feed_refused))]
 pub fn feed(
     letters: &mut Letters,
     codes: &mut Letters,

@@ -22,6 +22,7 @@ fn first_zero(table: &[u8]) -> usize
     j
 }
 
+#[tactic(auto, using(promises::proofs::LentLaws::table_refused, promises::proofs::LentLaws::zero_refused, promises::proofs::LentLaws::begun_refused, promises::proofs::LentLaws::table_taken))]
 pub fn load(lifts: &mut Lifts, held: Numbers, table: &[u8]) -> LoadAnswer
     ensures { LoadsOn held lifts.old table.now result lifts.new }
 {

@@ -45,6 +45,7 @@ fn room_for(marks: &Marks, name: u8) -> bool
     how_many(marks) < MARKS
 }
 
+#[tactic(auto, using(promises::proofs::RefusalLaws::letter_passed))]
 pub fn mark(marks: &mut Marks, held: Numbers, name: u8) -> MarkAnswer
     ensures { MarksOn held marks.old name result marks.new }
 {

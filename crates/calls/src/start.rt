@@ -16,7 +16,7 @@ use promises::StartAnswer;
 use refusals::start_refusal;
 
 // The answer, and the numbers of the state.
-#[derive(Drop)]
+#[derive(Clone, Copy)]
 pub struct Begin {
     pub answer: StartAnswer,
     pub numbers: Numbers,
@@ -53,6 +53,7 @@ fn clear_tables(letters: &mut Letters, lifts: &mut Lifts, marks: &mut Marks)
 }
 
 // A start on whatever is stored: `held` are the numbers stored.
+#[tactic(auto, using(promises::proofs::WritingLaws::start_refused))]
 pub fn start(
     letters: &mut Letters,
     codes: &mut Letters,
