@@ -1,0 +1,22 @@
+use Rattle.std.proofs.Common.{[], ◌∷◌, ap, ◌∙◌, arith}
+use Rattle.promises.specs.Book.{radius, lent}
+use Rattle.promises.specs.Replies.{gives, refusal_of}
+use Rattle.promises.specs.RefusalLaws.{centre_passed}
+use Rattle.promises.specs.Promises.{found_in}
+use Rattle.promises.specs.LentLaws.{refused_on, given_on}
+use Rattle.calls.proofs.radius.radius.Goals as goal
+
+pub returns-then-number-gt0 : goal.returns-then-number-gt0
+unfolding refusal_of lent
+returns-then-number-gt0 c =
+    let f = c.centre_refusal-number in refused_on c.args.held _ (radius c.args.c.0) f.result f.ensures c.if-number-gt0.true
+
+pub radius_at-requires : goal.radius_at-requires
+radius_at-requires c = (centre_passed c.args.held.n c.args.held.k c.args.c.0 (omega arith)).picks
+
+pub returns : goal.returns
+unfolding refusal_of found_in
+returns c =
+    let f = c.centre_refusal-number in
+    given_on c.args.held _ (radius c.args.c.0) f.result f.ensures c.if-number-gt0.false _
+    (λ d h p. ap (λ x. gives (x ∷ [])) c.radius_at.ensures.computes ∙ rw (← h, ← p))
