@@ -19,25 +19,25 @@ pub split_from-requires : goal.split_from-requires
 split_from-requires c =
     let p = c.args in
     let g = record_fits p.held.n p.held.k p.i.0 p.k (omega arith) in
-    (g.state.picks, omega (arith, g.most, g.state.most), omega (arith, g.prefix, g.state.picks))
+    (g.state.picks, omega arith, omega arith)
 
 pub slice_bounds-ends-end : goal.slice_bounds-ends-end
 slice_bounds-ends-end c =
     let p = c.args in
     let g = record_fits p.held.n p.held.k p.i.0 p.k (omega arith) in
-    omega (arith, g.most, g.state.most)
+    omega arith
 
 pub slice_bounds-write_record-end : goal.slice_bounds-write_record-end
 slice_bounds-write_record-end c =
     let p = c.args in
     let g = record_fits p.held.n p.held.k p.i.0 p.k (omega arith) in
-    sym (length-take-le p.k _ (omega (arith, g.most, g.state.most)))
+    sym (length-take-le p.k _ (omega arith))
 
 pub write_record-requires : goal.write_record-requires
 write_record-requires c =
     let p = c.args in
     let g = record_fits p.held.n p.held.k p.i.0 p.k (omega arith) in
-    (omega (arith, g.prefix, g.state.picks), simp length-take (omega (arith, g.most, g.state.most)))
+    (omega arith, simp length-take (omega arith))
 
 pub returns-then-split_from : goal.returns-then-split_from
 unfolding refusal_of
@@ -49,7 +49,7 @@ returns-then-split_from c =
     given_on p.held _ (fold p.i.0 p.k p.output.now) f.result f.ensures c.if-number-gt0.false _
     (λ d h q. record_in p.held d h p.letters.now p.rows.now p.radius.now p.i.0 p.k p.output.now _ q.0 q.1 q.2
     (record_given p.rows.now p.radius.now p.held.n (longest_of p.held.n p.held.longest.0) p.k p.i.0 _ r.result _ r.ensures
-    _ refl c.if-split_from.true (omega (arith, g.most, g.state.most)) (word p.letters.now) p.output.now _ c.write_record.ensures))
+    _ refl c.if-split_from.true (omega arith) (word p.letters.now) p.output.now _ c.write_record.ensures))
 
 pub returns : goal.returns
 unfolding refusal_of

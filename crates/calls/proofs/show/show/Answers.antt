@@ -22,21 +22,22 @@ pub slice_bounds-result-count-2 : goal.slice_bounds-result-count-2
 slice_bounds-result-count-2 c =
     let p = c.args in
     let f = c.show_number-number in
-    omega (arith, (part_fits p.letters.now p.ends.now p.s f.result f.ensures c.if-number-gt0.false).order)
+    let g = part_fits p.letters.now p.ends.now p.s f.result f.ensures c.if-number-gt0.false in
+    omega arith
 
 pub slice_bounds-result-start-2 : goal.slice_bounds-result-start-2
 slice_bounds-result-start-2 c =
     let p = c.args in
     let f = c.show_number-number in
     let g = part_fits p.letters.now p.ends.now p.s f.result f.ensures c.if-number-gt0.false in
-    omega (arith, g.order, g.inside)
+    omega arith
 
 pub slice_bounds-result-end-2 : goal.slice_bounds-result-end-2
 slice_bounds-result-end-2 c =
     let p = c.args in
     let f = c.show_number-number in
     let g = part_fits p.letters.now p.ends.now p.s f.result f.ensures c.if-number-gt0.false in
-    omega (arith, g.order, g.inside)
+    omega arith
 
 pub returns-clause-show_promise : goal.returns-clause-show_promise
 returns-clause-show_promise c =

@@ -17,7 +17,7 @@ pub split_from-requires : goal.split_from-requires
 split_from-requires c =
     let p = c.args in
     let g = (split_fits p.held.n p.held.k p.i.0 p.k (length p.ends.now) (omega arith)).0 in
-    (g.state.picks, omega (arith, g.most, g.state.most), omega (arith, g.prefix, g.state.picks))
+    (g.state.picks, omega arith, omega arith)
 
 pub slice_bounds-turn_count-end : goal.slice_bounds-turn_count-end
 slice_bounds-turn_count-end c =
