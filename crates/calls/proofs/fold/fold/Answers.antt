@@ -15,18 +15,6 @@ returns-then-number-gt0 c =
     let p = c.args in
     let f = c.record_refusal-number in refused_on p.held _ (fold p.i.0 p.k p.output.now) f.result f.ensures c.if-number-gt0.true
 
-pub split_from-requires : goal.split_from-requires
-split_from-requires c =
-    let p = c.args in
-    let g = record_fits p.held.n p.held.k p.i.0 p.k (omega arith) in
-    (g.state.picks, omega arith, omega arith)
-
-pub slice_bounds-ends-end : goal.slice_bounds-ends-end
-slice_bounds-ends-end c =
-    let p = c.args in
-    let g = record_fits p.held.n p.held.k p.i.0 p.k (omega arith) in
-    omega arith
-
 pub slice_bounds-write_record-end : goal.slice_bounds-write_record-end
 slice_bounds-write_record-end c =
     let p = c.args in

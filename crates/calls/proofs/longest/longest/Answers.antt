@@ -1,7 +1,6 @@
-use Rattle.std.proofs.Common.{[], ◌∷◌, ap, ◌∙◌, arith}
+use Rattle.std.proofs.Common.{[], ◌∷◌, ap, ◌∙◌}
 use Rattle.promises.specs.Book.{longest, lent}
 use Rattle.promises.specs.Replies.{gives, refusal_of}
-use Rattle.promises.specs.RefusalLaws.{longest_passed}
 use Rattle.promises.specs.Promises.{found_in}
 use Rattle.promises.specs.LentLaws.{refused_on, given_on}
 use Rattle.calls.proofs.longest.longest.Goals as goal
@@ -10,9 +9,6 @@ pub returns-then-number-gt0 : goal.returns-then-number-gt0
 unfolding refusal_of lent
 returns-then-number-gt0 c =
     let f = c.longest_refusal-number in refused_on c.args.held _ longest f.result f.ensures c.if-number-gt0.true
-
-pub longest-requires : goal.longest-requires
-longest-requires c = (longest_passed c.args.held.n c.args.held.k (omega arith)).picks
 
 pub returns : goal.returns
 unfolding refusal_of found_in

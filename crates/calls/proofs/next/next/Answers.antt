@@ -1,8 +1,7 @@
-use Rattle.std.proofs.Common.{[], ap, ◌∙◌, arith}
+use Rattle.std.proofs.Common.{[], ap, ◌∙◌}
 use Rattle.promises.specs.Answers.{reply}
 use Rattle.promises.specs.Book.{next, lent}
 use Rattle.promises.specs.Replies.{or_no_ending, refusal_of}
-use Rattle.promises.specs.RefusalLaws.{centre_passed}
 use Rattle.promises.specs.Promises.{found_in}
 use Rattle.promises.specs.LentLaws.{refused_on, given_on}
 use Rattle.calls.proofs.next.next.Goals as goal
@@ -11,9 +10,6 @@ pub returns-then-number-gt0 : goal.returns-then-number-gt0
 unfolding refusal_of lent
 returns-then-number-gt0 c =
     let f = c.centre_refusal-number in refused_on c.args.held _ (next c.args.c.0) f.result f.ensures c.if-number-gt0.true
-
-pub next_shorter-requires : goal.next_shorter-requires
-next_shorter-requires c = (centre_passed c.args.held.n c.args.held.k c.args.c.0 (omega arith)).picks
 
 pub returns : goal.returns
 unfolding refusal_of found_in

@@ -1,7 +1,6 @@
-use Rattle.std.proofs.Common.{[], ◌∷◌, ap, ◌∙◌, arith}
+use Rattle.std.proofs.Common.{[], ◌∷◌, ap, ◌∙◌}
 use Rattle.promises.specs.Book.{radius, lent}
 use Rattle.promises.specs.Replies.{gives, refusal_of}
-use Rattle.promises.specs.RefusalLaws.{centre_passed}
 use Rattle.promises.specs.Promises.{found_in}
 use Rattle.promises.specs.LentLaws.{refused_on, given_on}
 use Rattle.calls.proofs.radius.radius.Goals as goal
@@ -10,9 +9,6 @@ pub returns-then-number-gt0 : goal.returns-then-number-gt0
 unfolding refusal_of lent
 returns-then-number-gt0 c =
     let f = c.centre_refusal-number in refused_on c.args.held _ (radius c.args.c.0) f.result f.ensures c.if-number-gt0.true
-
-pub radius_at-requires : goal.radius_at-requires
-radius_at-requires c = (centre_passed c.args.held.n c.args.held.k c.args.c.0 (omega arith)).picks
 
 pub returns : goal.returns
 unfolding refusal_of found_in

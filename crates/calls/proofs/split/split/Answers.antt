@@ -13,21 +13,11 @@ returns-then-number-gt0 c =
     let p = c.args in
     let f = c.split_refusal-number in refused_on p.held _ (split p.i.0 p.k p.ends.now) f.result f.ensures c.if-number-gt0.true
 
-pub split_from-requires : goal.split_from-requires
-split_from-requires c =
-    let p = c.args in
-    let g = (split_fits p.held.n p.held.k p.i.0 p.k (length p.ends.now) (omega arith)).0 in
-    (g.state.picks, omega arith, omega arith)
-
-pub slice_bounds-turn_count-end : goal.slice_bounds-turn_count-end
-slice_bounds-turn_count-end c =
-    let p = c.args in
-    omega (arith, (split_fits p.held.n p.held.k p.i.0 p.k (length p.ends.now) (omega arith)).1)
-
 pub slice_bounds-turn_count-end-then-split_from : goal.slice_bounds-turn_count-end-then-split_from
 slice_bounds-turn_count-end-then-split_from c =
     let p = c.args in
-    sym (length-take-le _ _ (omega (arith, (split_fits p.held.n p.held.k p.i.0 p.k (length p.ends.now) (omega arith)).1)))
+    let room = (split_fits p.held.n p.held.k p.i.0 p.k (length p.ends.now) (omega arith)).1 in
+    sym (length-take-le _ _ (omega arith))
 
 pub returns-then-split_from : goal.returns-then-split_from
 unfolding refusal_of
