@@ -10,7 +10,7 @@ use record::write_record;
 use refusals::record_refusal;
 use splitting::split_from;
 
-#[tactic(auto, using(promises::specs::RefusalLaws::record_fits))]
+#[tactic(auto, using(promises::proofs::RefusalLaws::record_fits))]
 pub fn fold(
     letters: &Letters,
     rows: &ByPlace,

@@ -5,8 +5,8 @@ use Rattle.words.specs.Definitions.{word}
 use Rattle.models.specs.Iterator.{longest_of}
 use Rattle.promises.specs.Book.{fold, lent}
 use Rattle.promises.specs.Replies.{refusal_of}
-use Rattle.promises.specs.RefusalLaws.{record_fits}
-use Rattle.promises.specs.LentLaws.{refused_on, given_on, record_in, record_lacking, record_given}
+use Rattle.promises.proofs.RefusalLaws.{record_fits}
+use Rattle.promises.proofs.LentLaws.{refused_on, given_on, record_in, record_lacking, record_given}
 use Rattle.calls.proofs.fold.fold.Goals as goal
 
 pub returns-then-number-gt0 : goal.returns-then-number-gt0

@@ -3,7 +3,7 @@ use Rattle.promises.specs.Lifts.{lift_in}
 use Rattle.promises.specs.Book.{lift, lent}
 use Rattle.promises.specs.Replies.{gives, refusal_of}
 use Rattle.promises.specs.Promises.{found_in}
-use Rattle.promises.specs.LentLaws.{refused_on, given_on}
+use Rattle.promises.proofs.LentLaws.{refused_on, given_on}
 use Rattle.calls.proofs.lift.lift.Goals as goal
 
 pub returns-then-number-gt0 : goal.returns-then-number-gt0

@@ -2,7 +2,7 @@ use Rattle.std.proofs.Common.{[], ◌∷◌, ap}
 use Rattle.promises.specs.Book.{mask, lent}
 use Rattle.promises.specs.Replies.{gives, refusal_of}
 use Rattle.promises.specs.Promises.{found_in}
-use Rattle.promises.specs.LentLaws.{refused_on, given_on}
+use Rattle.promises.proofs.LentLaws.{refused_on, given_on}
 use Rattle.calls.proofs.mask.mask.Goals as goal
 
 pub returns-then-number-gt0 : goal.returns-then-number-gt0

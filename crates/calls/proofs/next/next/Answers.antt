@@ -3,7 +3,7 @@ use Rattle.promises.specs.Answers.{reply}
 use Rattle.promises.specs.Book.{next, lent}
 use Rattle.promises.specs.Replies.{or_no_ending, refusal_of}
 use Rattle.promises.specs.Promises.{found_in}
-use Rattle.promises.specs.LentLaws.{refused_on, given_on}
+use Rattle.promises.proofs.LentLaws.{refused_on, given_on}
 use Rattle.calls.proofs.next.next.Goals as goal
 
 pub returns-then-number-gt0 : goal.returns-then-number-gt0

@@ -1,5 +1,5 @@
 use Rattle.std.proofs.Common.{arith}
-use Rattle.promises.specs.ShowLaws.{part_fits}
+use Rattle.promises.proofs.ShowLaws.{part_fits}
 use Rattle.calls.proofs.show.show.Goals as goal
 
 pub overflow_sub-s : goal.overflow_sub-s

@@ -3,8 +3,8 @@ use Rattle.std.proofs.Math.Seq.{length-take-le}
 use Rattle.models.specs.Iterator.{longest_of}
 use Rattle.promises.specs.Book.{split, lent}
 use Rattle.promises.specs.Replies.{refusal_of}
-use Rattle.promises.specs.RefusalLaws.{split_fits}
-use Rattle.promises.specs.LentLaws.{refused_on, given_on, split_in_lem, split_lacking, split_given}
+use Rattle.promises.proofs.RefusalLaws.{split_fits}
+use Rattle.promises.proofs.LentLaws.{refused_on, given_on, split_in_lem, split_lacking, split_given}
 use Rattle.calls.proofs.split.split.Goals as goal
 
 pub returns-then-number-gt0 : goal.returns-then-number-gt0
