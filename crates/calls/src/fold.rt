@@ -10,6 +10,7 @@ use record::write_record;
 use refusals::record_refusal;
 use splitting::split_from;
 
+#[tactic(auto, using(promises::proofs::RefusalLaws::record_fits))]
 pub fn fold(
     letters: &Letters,
     rows: &ByPlace,

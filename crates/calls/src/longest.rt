@@ -8,6 +8,7 @@ use cells::Numbers;
 use promises::CentreAnswer;
 use refusals::longest_refusal;
 
+#[tactic(auto, using(promises::proofs::RefusalLaws::longest_passed))]
 pub fn longest(held: Numbers) -> CentreAnswer
     ensures { ReadsOn held (λ d. Unit) longest (reply (centre_says result) []) }
 {

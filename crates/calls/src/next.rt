@@ -21,6 +21,7 @@ fn answer_of(found: Shorter) -> NextAnswer
     }
 }
 
+#[tactic(auto, using(promises::proofs::RefusalLaws::centre_passed))]
 pub fn next(radius: &ByCentre, links: &ByCentre, held: Numbers, c: Centre) -> NextAnswer
     ensures { ReadsOn held (λ d. (d.radius ≡ radius.now) × (d.next ≡ links.now)) (next c.0) (reply (next_says result) []) }
 {

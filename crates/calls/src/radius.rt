@@ -9,6 +9,7 @@ use iterator::reading::radius_at;
 use promises::RadiusAnswer;
 use refusals::centre_refusal;
 
+#[tactic(auto, using(promises::proofs::RefusalLaws::centre_passed))]
 pub fn radius(lane: &ByCentre, held: Numbers, c: Centre) -> RadiusAnswer
     ensures { ReadsOn held (λ d. d.radius ≡ lane.now) (radius c.0) (reply (radius_says result) []) }
 {

@@ -9,6 +9,7 @@ use promises::{NO_SPLIT, SplitAnswer};
 use refusals::split_refusal;
 use splitting::{split_from, turn_count};
 
+#[tactic(auto, using(promises::proofs::RefusalLaws::split_fits))]
 pub fn split(
     rows: &ByPlace,
     radius: &ByCentre,
