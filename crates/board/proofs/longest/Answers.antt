@@ -1,4 +1,4 @@
-use Rattle.std.proofs.Common.{refl, tt}
+use Rattle.std.proofs.Common.{refl}
 use Rattle.board.proofs.longest.Goals as goal
 
 pub returns : goal.returns
