@@ -2,17 +2,16 @@
 //!
 //! Left out are imports of the proofs (`ghost use ..;`), the clauses of a contract (`requires`
 //! and `ensures`, with all lines up to their closing brace), attributes for the prover (`tactic`
-//! and `cycle`), and `#[unsafe(no_mangle)]`, since a slice has no C form in Rust: the functions
-//! are exported by `exports.rs`. A type that Rattle says to drop is copied in Rust, but for one
-//! with a lifetime. A program's `main` makes its host itself, which `host.rs` has. Whatever else
-//! Rust does not have is refused.
+//! and `cycle`), `#[derive(Drop)]`, since Rust drops every value, and `#[unsafe(no_mangle)]`,
+//! since a slice has no C form in Rust: the functions are exported by `exports.rs`. A program's
+//! `main` makes its host itself, which `host.rs` has. Whatever else Rust does not have is refused.
 
 use std::fmt;
 
 /// The line before a type that is copied, in both.
 pub const COPIED: &str = "#[derive(Clone, Copy)]";
 
-/// The line before a type that is dropped, in Rattle: Rust drops every value.
+/// The line before a type that is dropped and not copied, in Rattle.
 pub const DROPPED: &str = "#[derive(Drop)]";
 
 /// How a program's `main` begins, and the same in Rust.
@@ -76,7 +75,6 @@ fn line_of<'a>(line: &'a str, next: &str) -> Result<Line<'a>, &'static str> {
         _ if opens_clause(line) => Ok(Line::Clause),
         _ if line.starts_with("ghost use ") && line.ends_with(';') => Ok(Line::Left),
         COPIED if is_type(next) => Ok(Line::Written(line)),
-        DROPPED if is_type(next) && !next.contains('<') => Ok(Line::Written(COPIED)),
         DROPPED if is_type(next) => Ok(Line::Left),
         "#[unsafe(no_mangle)]" => Ok(Line::Left),
         MAIN => Ok(Line::Written(RUST_MAIN)),

@@ -29,20 +29,19 @@ fn without_clauses(source: &str) -> (String, usize) {
 }
 
 /// How a line begins that is left out for what it is.
-const LEFT: [&str; 5] = [
+const LEFT: [&str; 6] = [
     "ghost use ",
+    DROPPED,
     "#[unsafe(no_mangle)]",
     "#![tactic(",
     "#[tactic(",
     "#[cycle(",
 ];
 
-/// The other lines, but for those before types.
+/// The other lines.
 fn plain_lines(text: &str) -> Vec<&str> {
     let left = |line: &&str| LEFT.iter().any(|word| line.starts_with(word));
-    let before_type = |line: &&str| [COPIED, DROPPED].contains(line);
-    let lines = text.lines().filter(|line| !left(line));
-    lines.filter(|line| !before_type(line)).collect()
+    text.lines().filter(|line| !left(line)).collect()
 }
 
 fn text() -> Text {
@@ -56,7 +55,7 @@ fn nothing_but_clauses_is_left_out() {
         let rust = rust_of(source).unwrap_or_else(|unknown| panic!("{path}, {unknown}"));
         let (expected, clauses) = without_clauses(source);
         let expected = expected.replace(MAIN, RUST_MAIN);
-        let written: Vec<&str> = rust.lines().filter(|line| *line != COPIED).collect();
+        let written: Vec<&str> = rust.lines().collect();
         assert_eq!(written, plain_lines(&expected), "{path}");
         all += clauses;
     }
@@ -64,16 +63,13 @@ fn nothing_but_clauses_is_left_out() {
 }
 
 #[test]
-fn each_type_without_a_lifetime_is_copied() {
+fn a_line_stands_before_each_type_alone() {
     for (path, source) in &text().sources {
-        let rust = rust_of(source).unwrap_or_else(|unknown| panic!("{path}, {unknown}"));
-        for pair in rust.lines().collect::<Vec<_>>().windows(2) {
-            let copied = pair[0] == COPIED;
+        for pair in source.lines().collect::<Vec<_>>().windows(2) {
+            let derived = [COPIED, DROPPED].contains(&pair[0]);
             let mut words = pair[1].split(' ').filter(|word| *word != "pub");
             let opens = ["struct", "enum"].contains(&words.next().unwrap_or_default());
-            assert!(opens || !copied, "{path}: {}", pair[1]);
-            let owned = opens && !pair[1].contains('<');
-            assert!(copied || !owned, "{path}: {}", pair[1]);
+            assert_eq!(derived, opens, "{path}: {}", pair[1]);
         }
     }
 }
@@ -139,15 +135,15 @@ fn attributes_before_a_function() {
 #[test]
 fn attributes_before_a_type() {
     let typed = |attribute: &str, line: &str| rust_of(&format!("{attribute}\n{line}\n"));
-    for line in ["pub struct Pair(u8, u8);", "enum Side {"] {
-        let copied = Ok(format!("{COPIED}\n{line}\n"));
-        assert_eq!(typed(COPIED, line), copied);
-        assert_eq!(typed(DROPPED, line), copied);
+    for line in [
+        "pub struct Pair(u8, u8);",
+        "enum Side {",
+        "pub struct Reader<'a> {",
+    ] {
+        assert_eq!(typed(COPIED, line), Ok(format!("{COPIED}\n{line}\n")));
+        assert_eq!(typed(DROPPED, line), Ok(format!("{line}\n")));
+        assert!(typed("#[derive(Debug)]", line).is_err(), "{line}");
     }
-    let lent = "pub struct Reader<'a> {";
-    assert_eq!(typed(COPIED, lent), Ok(format!("{COPIED}\n{lent}\n")));
-    assert_eq!(typed(DROPPED, lent), Ok(format!("{lent}\n")));
-    assert!(typed("#[derive(Debug)]", lent).is_err());
 }
 
 #[test]
