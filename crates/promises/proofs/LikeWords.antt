@@ -6,8 +6,7 @@ use Prim.Native.Nat.{ℕ, suc, ◌+◌, ◌-◌, ◌/◌, ◌≤◌, ◌<◌}
 use native.Mathlib.Omega.{arith}
 use Rattle.words.specs.Definitions.{centre, radius, Ending, Mirrored, Period, LeastPeriod, Leading, Sections, done, next, Split, Named}
 use Rattle.words.specs.Search.{smallest_one, largest_as, passing_as}
-use Rattle.words.specs.Mirror.{mirror, ending, ending?, section_ending, ending_section}
-use Rattle.words.proofs.Mirrored.{mirrored?, radius_by}
+use Rattle.words.specs.Mirror.{mirror, ending, ending?, mirrored?, section_ending, ending_section}
 use Rattle.words.proofs.Bits.{bits_as}
 use Rattle.words.specs.Computed.{leading?, least_period, longest, longest_centre, next_ending, shorter_after, next_after, radius_at, visits, split_of, splits, row_word}
 use Rattle.words.specs.Computed.{mask as mask_of}
@@ -64,10 +63,8 @@ module _ {w v : ℕ → ℕ} {n : ℕ} (f : Like w v n) (g : Like v w n) where
   longest_like m l = ap (centre m) (largest_as (ending? w m) (ending? v m) (suc m) (λ x h. (ending_like f l, ending_like g l)))
 
   pub radius_like : (m c : ℕ) → m ≤ n → radius_at w m c ≡ radius_at v m c
-  radius_like m c l =
-      radius_by w m c
-      ∙ ap radius (largest_as (mirrored? w m c) (mirrored? v m c) (suc m) (λ x h. (mirrored_like f l, mirrored_like g l)))
-      ∙ sym (radius_by v m c)
+  unfolding radius_at
+  radius_like m c l = ap radius (largest_as (mirrored? w m c) (mirrored? v m c) (suc m) (λ x h. (mirrored_like f l, mirrored_like g l)))
 
   shorter_like : (m len : ℕ) → m ≤ n → 0 < len → len ≤ m → shorter_after w m len ≡ shorter_after v m len
   unfolding shorter_after next_ending

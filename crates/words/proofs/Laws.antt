@@ -7,8 +7,7 @@ use Rattle.std.proofs.Math.Nat.{div-div-eq-div-mul, pow-succ'}
 use Rattle.std.proofs.Math.Decide.{dec_lt, ℕ_discrete}
 use Rattle.words.specs.Definitions.{prefix, Joined, LeastPeriod, Ending, LongestEnding, NextEnding, Mirrored, LongestAt, centre, length_at, radius, Leading, LeadsFrom, LastLead, Visits, bit}
 use Rattle.words.specs.Search.{both?, largest, largest_is, smallest_is, passing_is}
-use Rattle.words.specs.Mirror.{empty_ending, single_ending, ending?}
-use Rattle.words.proofs.Mirrored.{mirrored?, radius_by}
+use Rattle.words.specs.Mirror.{empty_ending, single_ending, ending?, mirrored?}
 use Rattle.words.specs.Periods.{whole_period, period?}
 use Rattle.words.specs.Computed.{leading?, leads_from?, least_period, longest, longest_centre, moved, next_ending, NextShorter, shorter_after, next_after, radius_at, visits, splits, bits, row_word, mask}
 use Rattle.words.proofs.Splits.{given, lacking, split_law, joined_split, split_joined, cut, no_picks, splits_one, splits_zero, splits_small}
@@ -68,9 +67,10 @@ module _ (w : ℕ → ℕ) (n : ℕ) where
   ]
 
   pub radius_at_lem : (c : ℕ) → 0 < c → c ≤ 2 * n + 1 → (len : ℕ) × LongestAt w n c len × (radius_at w n c ≡ radius len)
+  unfolding radius_at
   radius_at_lem c h l =
       let m = at_centre c h l in
-      (largest (mirrored? w n c) (suc n), largest_is (mirrored? w n c) (suc n) m.0 m.2 (omega (arith, m.1)), radius_by w n c)
+      (largest (mirrored? w n c) (suc n), largest_is (mirrored? w n c) (suc n) m.0 m.2 (omega (arith, m.1)), refl)
 
   -- "A stretch on an even centre has length 2 × radius + 1, on an odd centre 2 × radius"
   pub even_length : {c len : ℕ} → Mirrored w n c len → c % 2 ≡ 0 → len ≡ 2 * radius len + 1

@@ -1,5 +1,4 @@
 -- the theory
-pub mod Mirrored
 pub mod Laws
 pub mod Lengths
 pub mod Series

@@ -8,8 +8,7 @@ use Rattle.std.proofs.Math.Decide.{dec_lt}
 use Rattle.std.specs.Int.Bits.{bit_or}
 use Rattle.words.specs.Definitions.{Ending, Mirrored, radius, Period, LeastPeriod, Leading, LastLead}
 use Rattle.words.specs.Search.{largest, largest_eq, largest_as, passing_as}
-use Rattle.words.specs.Mirror.{mirror, ending, ending?}
-use Rattle.words.proofs.Mirrored.{mirrored?, radius_by}
+use Rattle.words.specs.Mirror.{mirror, ending, ending?, mirrored?}
 use Rattle.words.specs.Computed.{leading?, leads_from?, least_period, longest, next_ending, radius_at, visits, cut_last, split_of, splits, row_word, join_steps, later_places, gather_over, gathered, gathered_word}
 use Rattle.words.proofs.Laws.{least_period_lem, last_lead}
 use Rattle.words.proofs.Lengths.{places_end}
@@ -60,10 +59,8 @@ module _ {w v : ℕ → ℕ} {n : ℕ} (f : Agree w v n) where
   next_as m len l = largest_as (ending? w m) (ending? v m) len (λ x h. (ending_as f l, ending_as (agree_back f) l))
 
   pub radius_as : (m c : ℕ) → m ≤ n → radius_at w m c ≡ radius_at v m c
-  radius_as m c l =
-      radius_by w m c
-      ∙ ap radius (largest_as (mirrored? w m c) (mirrored? v m c) (suc m) (λ x h. (mirrored_as f l, mirrored_as (agree_back f) l)))
-      ∙ sym (radius_by v m c)
+  unfolding radius_at
+  radius_as m c l = ap radius (largest_as (mirrored? w m c) (mirrored? v m c) (suc m) (λ x h. (mirrored_as f l, mirrored_as (agree_back f) l)))
 
   -- splits and row words
 

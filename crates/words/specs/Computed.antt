@@ -7,7 +7,7 @@ use Rattle.std.proofs.Math.Decide.{dec_le, dec_lt, ℕ_discrete}
 use Rattle.std.specs.Int.Bits.{bit_or}
 use Rattle.words.specs.Definitions.{Leading, LeadsFrom, Cubic, Rising, done, next, centre, length_at, radius, next_leading}
 use Rattle.words.specs.Search.{map?, both?, implies?, all?, largest, smallest, passing}
-use Rattle.words.specs.Mirror.{ending?, ends_there?}
+use Rattle.words.specs.Mirror.{ending?, mirrored?}
 use Rattle.words.specs.Periods.{period?}
 
 -- only a period that goes twice into the ending can keep it from leading
@@ -81,8 +81,8 @@ next_after w n c = elim (both? (dec_lt 0 (length_at n c)) (ending? w n (length_a
 
 -- the radius of the longest mirrored stretch at centre c of the first n letters
 unfoldable pub radius_at : (ℕ → ℕ) → ℕ → ℕ → ℕ
-unfolding largest ends_there?
-radius_at w n c = radius (largest (ends_there? w n c) (suc n))
+unfolding largest mirrored?
+radius_at w n c = radius (largest (mirrored? w n c) (suc n))
 
 -- the lengths of the non-empty leading endings, longest first
 unfoldable pub visits : (ℕ → ℕ) → ℕ → List ℕ

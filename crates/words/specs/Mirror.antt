@@ -97,10 +97,12 @@ ending? w n len = map?
     (both? (dec_le len n) (all? (λ x. ℕ_discrete (w (n - len + x)) (w (n - 1 - x))) len))
 
 -- the stretch of length len at centre c ends with pick (c + len) / 2, where c + len is odd
-abbrev pub EndsThere : (ℕ → ℕ) → ℕ → ℕ → ℕ → Type 0
-EndsThere w n c len = (((c + len) / 2 ≤ n) × (2 * ((c + len) / 2) + 1 ≡ c + len)) × Ending w ((c + len) / 2) len
-
-unfoldable pub ends_there? : (w : ℕ → ℕ) (n c len : ℕ) → Dec (EndsThere w n c len)
-unfolding both? ending? dec_le ℕ_discrete
-ends_there? w n c len =
-    both? (both? (dec_le ((c + len) / 2) n) (ℕ_discrete (2 * ((c + len) / 2) + 1) (c + len))) (ending? w ((c + len) / 2) len)
+unfoldable pub mirrored? : (w : ℕ → ℕ) (n c len : ℕ) → Dec (Mirrored w n c len)
+unfolding map? both? ending? dec_le ℕ_discrete
+mirrored? w n c len = map?
+    (λ h. record { end = (c + len) / 2; within = h.0.0; is = h.1; at = omega (arith, h.1.fits, h.0.1) })
+    (λ m.
+    let fits : len ≤ m.end = m.is.fits in
+    let e : m.end ≡ (c + len) / 2 = omega (arith, m.at) in
+    ((omega (arith, m.within), omega (arith, m.at)), rw e at m.is))
+    (both? (both? (dec_le ((c + len) / 2) n) (ℕ_discrete (2 * ((c + len) / 2) + 1) (c + len))) (ending? w ((c + len) / 2) len))
