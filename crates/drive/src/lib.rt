@@ -26,7 +26,7 @@ use cells::{Centre, Centres, Letters, Lifts, Marks, Numbers, Places};
 use text::bytes::write_bytes;
 
 // How far the script has been followed: the calls made, and the entries, output bytes and input bytes lent to them; on until it ends.
-#[derive(Drop)]
+#[derive(Clone, Copy)]
 struct Cursor {
     on: bool,
     made: usize,
