@@ -5,7 +5,7 @@ ghost use Rattle.drive.specs.Script.{sizes_of, fits};
 use crate::numbers::{OF_BYTES, OF_INPUT, OF_LISTS, OF_LISTS_AND_INPUT, is_call};
 
 // How much of each buffer a call is lent.
-#[derive(Drop)]
+#[derive(Clone, Copy)]
 pub struct Sizes {
     pub entries: usize,
     pub output: usize,

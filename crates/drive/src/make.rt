@@ -25,7 +25,7 @@ use cells::{Centre, Centres, Letters, Lifts, Marks, NEXT, Numbers, Place, Places
 use promises::{LoadAnswer, MarkAnswer};
 
 // A call's answer, and the numbers of the state after it.
-#[derive(Drop)]
+#[derive(Clone, Copy)]
 struct Called {
     told: Told,
     numbers: Numbers,
@@ -168,7 +168,7 @@ fn call(
 }
 
 // What came of a request: whether a call was made, its answer, the numbers of the state afterwards, and how much it was lent.
-#[derive(Drop)]
+#[derive(Clone, Copy)]
 pub struct Tried {
     pub made: bool,
     pub told: Told,

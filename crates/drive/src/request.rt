@@ -11,7 +11,7 @@ const CALL_SIZE: usize = 6;
 pub const ANSWER_SIZE: usize = 4;
 
 // The call's number, and its arguments.
-#[derive(Drop)]
+#[derive(Clone, Copy)]
 pub struct Request {
     pub op: u8,
     pub b: u8,

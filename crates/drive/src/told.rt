@@ -10,7 +10,7 @@ use promises::{
     RadiusAnswer, RecordAnswer, SplitAnswer, StartAnswer, UnfoldAnswer,
 };
 
-#[derive(Drop)]
+#[derive(Clone, Copy)]
 pub struct Told {
     // 0 for an answer given, 1 for a refusal, 2 for one with a place.
     pub kind: usize,
