@@ -1,1 +1,3 @@
+pub mod Advancing
+pub mod Onward
 pub mod Session

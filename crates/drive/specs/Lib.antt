@@ -8,4 +8,3 @@ pub mod Told
 pub mod Requests
 pub mod Calling
 pub mod Advancing
-pub mod Onward
