@@ -1,8 +1,5 @@
 -- Scripts one after another: what is proved of every run holds of what `drive` did.
-use mathlib.Core.Path.{◌≡◌, refl, sym, ap, ap₂, ◌∙◌}
-use mathlib.Core.List.{List, [], ◌∷◌, ◌++◌, map, map-append}
-use Prim.Native.Nat.{ℕ}
-use lib.ListN.{length, length-map}
+use Rattle.std.proofs.Common.{◌≡◌, refl, sym, ap, ap₂, ◌∙◌, ℕ, List, [], ◌∷◌, ◌++◌, length, map, map-append, length-map}
 use Rattle.words.proofs.Cases.{clash}
 use Rattle.promises.specs.declared.Draft.{Draft}
 use Rattle.promises.specs.declared.Started.{Started}
@@ -24,6 +21,7 @@ use Rattle.drive.specs.Session.{Driven, DrivenFrom, asked_by, asked_by_all, Sess
 pub session_runs : SessionRuns
 unfolding Run last asked_by_all
 session_runs d e [] [] over = record { run = tt; asks = refl; state = refl }
+session_runs d e [] (_ ∷ _) t = elim t [ ]
 session_runs d e (s ∷ ss) ms (again {ms = ys} h t) =
     let r = session_runs _ e ss ys t in
     record {
@@ -76,6 +74,7 @@ outcome b s h r = record {
 outcomes : {d e : Draft} (b : Book) (ss : List Driven) (ms : List Made) → Session d ss e ms → map reply_of ms ≡ replies b (calls ms) → Outcomes b ss
 unfolding Outcomes
 outcomes b [] [] over r = tt
+outcomes {d = d} {e = e} b [] (_ ∷ _) t r = elim t [ ]
 outcomes b (s ∷ ss) ms (again {ms = ys} h t) r =
     let p = replied_split b h.made ys r in
     (outcome b s h p.0, outcomes (write_all b (asked_by s)) ss ys t (rw h.asks at p.1))
