@@ -1,5 +1,5 @@
 -- One call of the loop of `drive`: what is stored after it, and where there is room for that.
-use Rattle.std.specs.Prelude.{◌≡◌, refl, Bool, true, false, List, ◌++◌, ℕ, ◌+◌, ◌-◌, ◌*◌, ◌≤◌, ◌<◌, length, take, drop}
+use Rattle.std.specs.Prelude.{◌≡◌, refl, true, List, ◌++◌, ℕ, ◌-◌, ◌*◌, ◌≤◌, ◌<◌, length, take, drop}
 use Rattle.std.proofs.Common.{sym, ap, subst, ◌∙◌, arith, length-drop, take-append-drop}
 use Rattle.std.proofs.Math.Option.{Option, some, none}
 use Rattle.std.proofs.lemmas.List.Edits.{sets}
@@ -10,18 +10,16 @@ use Rattle.promises.specs.State.{draft_in}
 use Rattle.promises.specs.State.{numbers_of as numbersHeld}
 use Rattle.cells.specs.Lanes.{ByCentre, ByPlace}
 use Rattle.cells.specs.declared.Numbers.{Numbers}
-use Rattle.promises.specs.Runs.{Made, call_of, Meets, leaves}
-use Rattle.drive.specs.Script.{Buffers, buffers, call_size, next_sizes, sizes_for}
-use Rattle.drive.specs.Drives.{held_in, answer_size, answers_of, entries_of, bytes_of}
-use Rattle.drive.specs.Told.{numbers_of}
-use Rattle.drive.specs.Parts.{LendsAt, lends_at, lends_sets}
-use Rattle.drive.specs.Requests.{requested, called, Requests, requests_called, requests_sizes, has_room}
+use Rattle.drive.specs.Script.{Buffers, buffers, next_sizes, sizes_for}
+use Rattle.drive.specs.Drives.{held_in, answer_size, answers_of}
+use Rattle.drive.specs.Parts.{lends_at, lends_sets}
+use Rattle.drive.specs.Requests.{requested, Requests, requests_called, requests_sizes, has_room}
 use Rattle.drive.specs.Calling.{Takes, Stays, Tries, stays, takes, TriesFor}
 use Rattle.drive.specs.declared.request.Request.{Request}
 use Rattle.drive.specs.declared.lending.Sizes.{Sizes}
 use Rattle.drive.specs.declared.make.Tried.{Tried}
 use Rattle.drive.specs.declared.Cursor.{Cursor}
-use Rattle.drive.specs.Advancing.{script_at, left_at, called_at, Goes, Halts, Advances, halts, goes, AdvancesAt, far, Room, Stores, Keeps, Settles}
+use Rattle.drive.specs.Advancing.{script_at, left_at, called_at, Goes, Halts, Advances, halts, goes, AdvancesAt, far, Room, Settles}
 
 -- the call was made on the state of these numbers, and ls, bs and is are what was left to lend
 pub tries_left : (numbers : List ℕ) {held : Numbers} (letters codes lifts marks : List ℕ) (v : ByCentre) (w : ByPlace) (s : Buffers) (at : Cursor) {ls bs is : List ℕ}

@@ -9,13 +9,12 @@ use Rattle.promises.specs.Book.{Book, Call, start, blank, write_all, book_of}
 use Rattle.promises.specs.State.{state_of_book}
 use Rattle.promises.specs.Replies.{replies}
 use Rattle.promises.specs.Runs.{Made, started, fed, loaded, marked, returned, asked, call_of, calls, reply_of, Run, last}
-use Rattle.promises.specs.Demands.{Opened}
 use Rattle.promises.proofs.Keeping.{run_join, last_join}
 use Rattle.promises.proofs.Transcript.{replied_split, transcript}
 use Rattle.promises.proofs.Stored.{state_of_book_lem}
 use Rattle.drive.specs.Script.{fills_lists, fills_bytes, list_from}
 use Rattle.drive.specs.Drives.{encoded, joined}
-use Rattle.drive.specs.Session.{Driven, DrivenFrom, asked_by, asked_by_all, Session, over, again, SessionRuns, Opens, OfEverySession, together, Outcome, Outcomes, SessionHolds}
+use Rattle.drive.specs.Session.{Driven, DrivenFrom, asked_by, asked_by_all, Session, over, again, SessionRuns, OfEverySession, together, Outcome, Outcomes, SessionHolds}
 
 -- One run
 

@@ -1,23 +1,15 @@
 -- The loop of `drive`, one call at a time: at a cursor the next call is made and its answer stored, or the script has ended.
-use Rattle.std.specs.Prelude.{◌≡◌, refl, Bool, true, false, List, ◌++◌, ℕ, ◌+◌, ◌-◌, ◌*◌, ◌≤◌, ◌<◌, length, take, drop}
-use Rattle.std.proofs.Common.{sym, ap, subst, ◌∙◌, arith, length-drop, take-append-drop}
+use Rattle.std.specs.Prelude.{◌≡◌, Bool, true, false, List, ℕ, ◌+◌, ◌-◌, ◌*◌, ◌≤◌, ◌<◌, length, drop}
 use Rattle.std.proofs.Math.Option.{Option, some, none}
 use Rattle.std.proofs.lemmas.List.Edits.{sets}
-use Rattle.words.proofs.Cases.{true_false}
 use Rattle.promises.specs.declared.Draft.{Draft}
 use Rattle.promises.specs.Book.{Call}
-use Rattle.promises.specs.State.{draft_in}
-use Rattle.promises.specs.State.{numbers_of as numbersHeld}
-use Rattle.cells.specs.Lanes.{ByCentre, ByPlace}
-use Rattle.cells.specs.declared.Numbers.{Numbers}
 use Rattle.promises.specs.Runs.{Made, call_of, Meets, leaves}
-use Rattle.drive.specs.Script.{Buffers, buffers, call_size, next_sizes, sizes_for}
+use Rattle.drive.specs.Script.{Buffers, buffers, call_size, next_sizes}
 use Rattle.drive.specs.Drives.{held_in, answer_size, answers_of, entries_of, bytes_of}
 use Rattle.drive.specs.Told.{numbers_of}
-use Rattle.drive.specs.Parts.{LendsAt, lends_at, lends_sets}
-use Rattle.drive.specs.Requests.{requested, called, Requests, requests_called, requests_sizes, has_room}
-use Rattle.drive.specs.Calling.{Takes, Stays, Tries, stays, takes, TriesFor}
-use Rattle.drive.specs.declared.request.Request.{Request}
+use Rattle.drive.specs.Parts.{LendsAt}
+use Rattle.drive.specs.Requests.{called}
 use Rattle.drive.specs.declared.lending.Sizes.{Sizes}
 use Rattle.drive.specs.declared.make.Tried.{Tried}
 use Rattle.drive.specs.declared.Cursor.{Cursor}

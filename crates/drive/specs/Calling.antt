@@ -1,5 +1,5 @@
 -- One call of a script: what the code promises of it.
-use Rattle.std.specs.Prelude.{◌≡◌, refl, Bool, true, false, cond, ◌||◌, ◌≢◌, List, [], ◌++◌, ℕ, ◌≤◌, ◌<◌, eqb, leb, length, drop}
+use Rattle.std.specs.Prelude.{◌≡◌, refl, Bool, true, false, cond, ◌||◌, ◌≢◌, List, [], ◌++◌, ℕ, ◌≤◌, eqb, leb, length, drop}
 use Rattle.std.proofs.Common.{sym, ap, ◌∙◌, leb-true, le-leb, ne_eqb}
 use Rattle.std.proofs.Math.Bool.{and-eq-true_iff}
 use Rattle.std.proofs.Math.Option.{Option, some, none}
