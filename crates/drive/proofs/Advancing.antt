@@ -12,8 +12,9 @@ use Rattle.cells.specs.Lanes.{ByCentre, ByPlace}
 use Rattle.cells.specs.declared.Numbers.{Numbers}
 use Rattle.drive.specs.Script.{Buffers, buffers, next_sizes, sizes_for}
 use Rattle.drive.specs.Drives.{held_in, answer_size, answers_of}
-use Rattle.drive.specs.Parts.{lends_at, lends_sets}
-use Rattle.drive.specs.Requests.{requested, Requests, requests_called, requests_sizes, has_room}
+use Rattle.drive.proofs.Parts.{lends_at, lends_sets}
+use Rattle.drive.specs.Requests.{requested, Requests}
+use Rattle.drive.proofs.Requests.{requests_called, requests_sizes, has_room}
 use Rattle.drive.specs.Calling.{Takes, Stays, Tries, stays, takes, TriesFor}
 use Rattle.drive.specs.declared.request.Request.{Request}
 use Rattle.drive.specs.declared.lending.Sizes.{Sizes}

@@ -10,8 +10,9 @@ use Rattle.promises.specs.Book.{Call}
 use Rattle.promises.specs.Runs.{Made, call_of, Meets, leaves, Run, last}
 use Rattle.drive.specs.Script.{Buffers, buffers, call_size, next_call, next_sizes, past, or_end, asked}
 use Rattle.drive.specs.Drives.{answer_size, answers_of, entries_of, bytes_of, joined, Drives}
-use Rattle.drive.specs.Parts.{lends_rest, lends_front, lends_length}
-use Rattle.drive.specs.Requests.{called, has_room}
+use Rattle.drive.proofs.Parts.{lends_rest, lends_front, lends_length}
+use Rattle.drive.specs.Requests.{called}
+use Rattle.drive.proofs.Requests.{has_room}
 use Rattle.drive.specs.Advancing.{cursor, onward, script_at, left_at, called_at, Goes, Halts, Advances, halts, goes}
 use Rattle.drive.specs.declared.lending.Sizes.{Sizes}
 use Rattle.drive.specs.declared.Cursor.{Cursor}

@@ -2,7 +2,7 @@
 pub mod Script
 pub mod Drives
 pub mod Session
--- laws
+-- for the calls, one at a time
 pub mod Parts
 pub mod Told
 pub mod Requests

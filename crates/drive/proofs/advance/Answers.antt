@@ -2,9 +2,9 @@ use Rattle.std.proofs.Common.{◌≡◌, refl, sym, true, arith}
 use Rattle.cells.specs.Lanes.{by_centre, by_place}
 use Rattle.promises.specs.State.{draft_in}
 use Rattle.drive.specs.Script.{Buffers, buffers}
-use Rattle.drive.specs.Requests.{requests_called}
+use Rattle.drive.proofs.Requests.{requests_called}
 use Rattle.drive.specs.Calling.{TriesFor}
-use Rattle.drive.specs.Parts.{part_whole, part_back}
+use Rattle.drive.proofs.Parts.{part_whole, part_back}
 use Rattle.drive.specs.Drives.{state_of}
 use Rattle.drive.specs.Advancing.{left_at, Room}
 use Rattle.drive.proofs.Advancing.{tries_left, room_for, advances, advances_at}

@@ -4,7 +4,7 @@ use Rattle.promises.specs.Answers.{reply, split_says, centre_says, mask_says, ra
 use Rattle.promises.specs.Book.{split, longest, mask, radius, next, fold, lift}
 use Rattle.promises.proofs.BookLaws.{none_left}
 use Rattle.drive.specs.Script.{call_on, source_of, source_at}
-use Rattle.drive.specs.Calling.{query_makes}
+use Rattle.drive.proofs.Calling.{query_makes}
 use Rattle.drive.proofs.make.ask.Goals as goal
 
 pub returns-in-16 : goal.returns-in-16

@@ -2,7 +2,7 @@
 use Rattle.std.proofs.Common.{refl}
 use Rattle.promises.proofs.BookLaws.{none_left}
 use Rattle.drive.specs.Script.{call_on, source_of, source_at}
-use Rattle.drive.specs.Calling.{start_makes, feed_makes, load_makes, mark_makes, back_makes}
+use Rattle.drive.proofs.Calling.{start_makes, feed_makes, load_makes, mark_makes, back_makes}
 use Rattle.drive.proofs.make.call.Goals as goal
 
 pub returns-in-0 : goal.returns-in-0

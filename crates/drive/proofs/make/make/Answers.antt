@@ -1,7 +1,7 @@
 -- A request is answered by its call, lent as much as its number says, where so much is left; and by none where not.
 use Rattle.std.proofs.Common.{◌≡◌, sym, ap, ◌∙◌, length-take-le}
 use Rattle.drive.specs.Script.{buffers, sizes_of, sizes_for}
-use Rattle.drive.specs.Calling.{fits_true, tries_none, tries_one}
+use Rattle.drive.proofs.Calling.{fits_true, tries_none, tries_one}
 use Rattle.drive.proofs.make.make.Goals as goal
 
 pub returns-then-fits : goal.returns-then-fits

@@ -1,6 +1,6 @@
 -- A call that no arm names is lent nothing: by one test over all numbers.
 use Rattle.std.proofs.Common.{refl, sym, [], ◌∷◌, rules}
-use Rattle.drive.specs.Requests.{nothing_else, nothing_lent}
+use Rattle.drive.proofs.Requests.{nothing_else, nothing_lent}
 use Rattle.drive.proofs.numbers.source_at.Goals as goal
 
 -- the numbers of the arms, the last one first

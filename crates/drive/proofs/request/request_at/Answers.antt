@@ -1,6 +1,7 @@
 -- Where fewer than six bytes are left no call comes next.
 use Rattle.std.proofs.Common.{◌-◌, ◌*◌, drop, length-drop, arith}
-use Rattle.drive.specs.Requests.{over, script_ends}
+use Rattle.drive.specs.Requests.{over}
+use Rattle.drive.proofs.Requests.{script_ends}
 use Rattle.drive.proofs.request.request_at.Goals as goal
 
 pub returns-then-script-made : goal.returns-then-script-made
