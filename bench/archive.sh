@@ -5,16 +5,16 @@ cd "$(dirname "${BASH_SOURCE[0]}")/.." || exit 2
 
 # The path of a crate's archive.
 archive() { # crate
-    local path=${folder:-target/staticlib}/lib$1.a proved status
+    local path=${folder:-crates/$1/out}/lib$1.a proved status
     if [ -z "$folder" ]; then
-        proved=$(rt staticlib "$1" 2>&1) || {
+        proved=$(cd "crates/$1" && rt lib 2>&1) || {
             status=$?
             printf '%s\n' "$proved" >&2
             exit "$status"
         }
     fi
     if [ ! -f "$path" ]; then
-        echo "bench: no $path: run rt staticlib $1" >&2
+        echo "bench: no $path: run rt lib in crates/$1" >&2
         exit 2
     fi
     echo "$path"

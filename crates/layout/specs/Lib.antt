@@ -4,7 +4,3 @@ pub mod Layout
 pub mod Unfolding
 pub mod Reading
 pub mod Yield
--- laws
--- where bytes break off
--- what a record unfolds to
--- what its reader yields

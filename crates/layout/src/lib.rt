@@ -6,27 +6,27 @@ use cells::Place;
 
 // A section's middle (document 02, "either on a pick or between two picks"): the pick's number in the draft, or that of the
 // earlier of the two.
-#[derive(Drop)]
+#[derive(Clone, Copy)]
 pub enum Turn {
     OnPick(Place),
     Between(Place),
 }
 
 // A section as a reader yields it.
-#[derive(Drop)]
+#[derive(Clone, Copy)]
 pub struct Section {
     pub length: usize,
     pub turn: Turn,
 }
 
-#[derive(Drop)]
+#[derive(Clone, Copy)]
 pub enum Yielded {
     Next(Section),
     Nothing,
 }
 
 // What a reader yields at a place of a record, and the place after it.
-#[derive(Drop)]
+#[derive(Clone, Copy)]
 pub struct Found {
     pub yielded: Yielded,
     pub next: usize,

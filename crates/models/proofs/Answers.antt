@@ -1,7 +1,7 @@
--- The promises of the iterator's functions on lent arrays: each a meaning, for every word that the arrays hold, and what is computed on any contents.
-use Rattle.std.specs.Prelude.{◌≡◌, cond, List, ℕ, suc, ◌+◌, ◌*◌, ◌≤◌, ◌<◌}
+-- That the iterator's functions keep their promises, for every word that the arrays hold.
+use Rattle.std.specs.Prelude.{◌≡◌, List, ℕ, ◌+◌, ◌*◌, ◌≤◌, ◌<◌}
 use Rattle.std.proofs.Common.{ap, ap₂, ◌∙◌, arith}
-use Rattle.std.proofs.Math.Option.{Option, some, none}
+use Rattle.std.proofs.Math.Option.{Option, some}
 use Rattle.words.specs.Definitions.{most_picks, centre, length_at}
 use Rattle.words.specs.Search.{largest_one, smallest_one}
 use Rattle.words.specs.Computed.{least_period, next_ending, NextShorter, next_shorter, shorter_after, next_after}

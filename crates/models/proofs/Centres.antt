@@ -1,5 +1,4 @@
--- Mirrored stretches by their centre and their last pick: the form in which the iterator works, and its bridge to `words`.
--- Letters are counted from 0 and a centre is first and last pick number added, so letters i and j mirror each other at c where i + j + 2 ≡ c.
+-- Mirrored stretches by their centre and their last pick: the bridge to `words`.
 use Rattle.std.specs.Prelude.{◌≡◌, ℕ, ◌+◌, ◌*◌, ◌-◌, ◌/◌, ◌≤◌, ◌<◌}
 use Rattle.std.proofs.Common.{sym, ◌∙◌, arith}
 use Rattle.std.proofs.Math.Decide.{dec_le}

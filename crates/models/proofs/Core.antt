@@ -1,4 +1,4 @@
--- Iterator and engine together: what the arrays hold, and what one pick more does to them.
+-- That one pick more keeps what the arrays hold, and what the core promises of it.
 use Rattle.std.specs.Prelude.{◌≡◌, refl, List, [], ◌∷◌, ◌++◌, length, drop, set, replicate}
 use Rattle.std.proofs.Common.{sym, ap, subst, ◌∙◌, append-nil, append_assoc, arith, length-append, length-set, drop-set-lt}
 use Prim.Native.Nat.{ℕ, suc, ◌+◌, ◌≤◌, ◌<◌}
@@ -9,10 +9,9 @@ use Rattle.std.proofs.Math.Seq.{length-sets, get_or-append_seam}
 use Rattle.std.specs.Int.Bits.{bit_or}
 use Rattle.cells.specs.Lanes.{centre_entries, place_entries, ByCentre, ByPlace, with_heads}
 use Rattle.words.specs.Definitions.{most_picks, most_visits, word}
-use Rattle.words.specs.Computed.{visits}
 use Rattle.words.proofs.Prefixes.{Agree}
 use Rattle.models.proofs.Centres.{longest_centre_at}
-use Rattle.models.specs.Iterator.{Iterator, iterator, appended}
+use Rattle.models.specs.Iterator.{Iterator, appended}
 use Rattle.models.specs.Engine.{longest_length, walk_all, Stepped, stepped}
 use Rattle.models.specs.Lanes.{iterator_in}
 use Rattle.models.specs.Stores.{at}

@@ -1,5 +1,5 @@
 -- The iterator's invariant: one letter more keeps it, and what it answers (the paper, Proposition 1).
-use Rattle.std.specs.Prelude.{◌≡◌, true, false, List, length}
+use Rattle.std.specs.Prelude.{◌≡◌, true, false, List}
 use Rattle.std.proofs.Common.{◌∙◌, le-leb, eq-eqb, ne_eqb}
 use Prim.Native.Nat.{ℕ, suc, ◌+◌, ◌*◌, ◌-◌, ◌/◌, ◌≤◌, ◌<◌}
 use native.Mathlib.Omega.{arith}

@@ -1,4 +1,4 @@
--- A list of numbers, rising from lo to hi, linked both ways: N leads on and P leads back. What is in it is said by Q.
+-- A list of numbers linked both ways: another predicate, one more at the end, one taken out.
 use Rattle.std.specs.Prelude.{◌≡◌, refl, ℕ, ◌≤◌, ◌<◌}
 use Rattle.std.proofs.Common.{sym, ap, ◌∙◌, arith}
 use Rattle.std.proofs.Math.Decide.{dec_le, dec_lt, ℕ_discrete}

@@ -1,5 +1,5 @@
 -- The scan finds the longest ending, and keeps the radii and the lend lists right (the paper, Section 3, lines 2 to 7).
-use Rattle.std.specs.Prelude.{◌≡◌, Bool, List, length, set}
+use Rattle.std.specs.Prelude.{◌≡◌, Bool, List, set}
 use Rattle.std.proofs.Math.Path.{refl}
 use Rattle.std.proofs.Common.{sym, ◌∙◌, length-set}
 use Rattle.std.proofs.Math.Bool.{true, false}

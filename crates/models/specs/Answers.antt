@@ -1,6 +1,5 @@
 -- The promises of the iterator's functions on lent arrays: each a meaning, for every word that the arrays hold, and what is computed on any contents.
 use Rattle.std.specs.Prelude.{◌≡◌, cond, List, ℕ, suc, ◌+◌, ◌*◌, ◌≤◌, ◌<◌}
-use Rattle.std.proofs.Common.{ap, ap₂, ◌∙◌, arith}
 use Rattle.std.proofs.Math.Option.{Option, some, none}
 use Rattle.words.specs.Definitions.{length_at}
 use Rattle.words.specs.Computed.{longest_centre, NextShorter, next_shorter, next_after, radius_at}

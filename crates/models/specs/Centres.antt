@@ -1,8 +1,6 @@
 -- Mirrored stretches by their centre and their last pick: the form in which the iterator works, and its bridge to `words`.
 -- Letters are counted from 0 and a centre is first and last pick number added, so letters i and j mirror each other at c where i + j + 2 ≡ c.
-use Rattle.std.specs.Prelude.{◌≡◌, ℕ, ◌+◌, ◌*◌, ◌-◌, ◌/◌, ◌≤◌, ◌<◌}
-use Rattle.std.proofs.Common.{sym, ◌∙◌, arith}
-use Rattle.std.proofs.Math.Decide.{dec_le}
+use Rattle.std.specs.Prelude.{◌≡◌, ℕ, ◌+◌, ◌*◌, ◌≤◌, ◌<◌}
 
 -- c is the centre of an ending of the first e letters
 pub record EndingAt (w : ℕ → ℕ) (e c : ℕ) : Type 0 where

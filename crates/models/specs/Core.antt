@@ -1,12 +1,6 @@
 -- Iterator and engine together: what the arrays hold, and what one pick more does to them.
-use Rattle.std.specs.Prelude.{◌≡◌, refl, List, [], ◌∷◌, ◌++◌, length, drop, set, replicate}
-use Rattle.std.proofs.Common.{sym, ap, subst, ◌∙◌, append-nil, append_assoc, arith, length-append, length-set, drop-set-lt}
-use Prim.Native.Nat.{ℕ, suc, ◌+◌, ◌≤◌, ◌<◌}
-use Rattle.std.proofs.lemmas.List.{length-replicate, get_or-replicate}
-use Rattle.std.proofs.Math.ListN.{get_or-append}
-use Rattle.std.proofs.lemmas.List.Edits.{sets}
-use Rattle.std.proofs.Math.Seq.{length-sets, get_or-append_seam}
-use Rattle.std.specs.Int.Bits.{bit_or}
+use Rattle.std.specs.Prelude.{◌≡◌, List, [], ◌∷◌, ◌++◌, length, drop, set, replicate}
+use Prim.Native.Nat.{ℕ, suc, ◌≤◌}
 use Rattle.cells.specs.Lanes.{centre_entries, place_entries, ByCentre, ByPlace, with_heads}
 use Rattle.words.specs.Definitions.{most_picks, most_visits, word}
 use Rattle.words.specs.Computed.{longest_centre, visits, row_word}

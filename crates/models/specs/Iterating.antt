@@ -1,11 +1,6 @@
--- The iterator's invariant: one letter more keeps it, and what it answers (the paper, Proposition 1).
-use Rattle.std.specs.Prelude.{◌≡◌, true, false, List, length}
-use Rattle.std.proofs.Common.{◌∙◌, le-leb, eq-eqb, ne_eqb}
-use Prim.Native.Nat.{ℕ, suc, ◌+◌, ◌*◌, ◌-◌, ◌/◌, ◌≤◌, ◌<◌}
-use native.Mathlib.Omega.{arith}
-use Rattle.std.proofs.Math.Decide.{dec_le, dec_lt, ℕ_discrete}
-use Rattle.std.proofs.Math.ListN.{length-set}
-use Rattle.std.proofs.lemmas.Bool.{lt-leb}
+-- The iterator's invariant (the paper, Proposition 1).
+use Rattle.std.specs.Prelude.{◌≡◌, length}
+use Prim.Native.Nat.{ℕ, ◌+◌, ◌*◌, ◌<◌}
 use Rattle.cells.specs.Lanes.{centre_entries, place_entries}
 use Rattle.words.specs.Definitions.{most_picks}
 use Rattle.models.specs.Centres.{EndingAt}

@@ -1,11 +1,6 @@
--- How the code of the iterator goes through its model: a lemma for each way that a test or a step of a loop can go.
--- What the code computed are variables here, each tied by an equation.
-use Rattle.std.specs.Prelude.{◌≡◌, refl, true, false, List, set, eqb}
-use Rattle.std.proofs.Common.{ap, ◌∙◌, lt-ltb, le-ltb, eq-eqb}
-use Rattle.std.proofs.Math.Option.{some, none}
-use Prim.Native.Nat.{ℕ, zero, suc, ◌+◌, ◌-◌, ◌*◌, ◌/◌, min, ◌≤◌, ◌<◌}
-use native.Mathlib.Omega.{arith}
-use Rattle.std.proofs.Math.ListN.{get_or}
+-- What is left of a loop of the iterator's code, in its model.
+use Rattle.std.specs.Prelude.{List}
+use Prim.Native.Nat.{ℕ}
 use Rattle.cells.specs.Lanes.{ByCentre, ByPlace}
 use Rattle.models.specs.Iterator.{scan, link, unlink, unlinks}
 use Rattle.models.specs.Lanes.{Moved, rescanned, links_in, relinked}

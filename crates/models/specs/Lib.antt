@@ -5,18 +5,17 @@ pub mod Answers
 pub mod Iterator
 pub mod Engine
 pub mod Lanes
+pub mod Splitting
 -- endings by their centres
 pub mod Centres
 pub mod Reflection
 pub mod Linked
--- the iterator's laws
+-- the invariants
 pub mod Stores
 pub mod Scanning
 pub mod Unlinking
 pub mod Iterating
--- the engine's laws
 pub mod Stepping
-pub mod Splitting
 -- how code meets model
 pub mod IteratorCode
 pub mod EngineCode

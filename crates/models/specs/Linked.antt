@@ -1,7 +1,5 @@
 -- A list of numbers, rising from lo to hi, linked both ways: N leads on and P leads back. What is in it is said by Q.
-use Rattle.std.specs.Prelude.{◌≡◌, refl, ℕ, ◌≤◌, ◌<◌}
-use Rattle.std.proofs.Common.{sym, ap, ◌∙◌, arith}
-use Rattle.std.proofs.Math.Decide.{dec_le, dec_lt, ℕ_discrete}
+use Rattle.std.specs.Prelude.{◌≡◌, ℕ, ◌≤◌, ◌<◌}
 
 -- F leads from c to a number in the list, and G leads back
 pub record Neighbour (F G : ℕ → ℕ) (Q : ℕ → Type 0) (c : ℕ) : Type 0 where

@@ -1,7 +1,5 @@
--- Stretches within an ending, reflected at its centre, and stretches after one letter more (the paper, Section 3).
-use Rattle.std.specs.Prelude.{◌≡◌, ℕ, suc, ◌+◌, ◌*◌, ◌-◌, min, ◌≤◌, ◌<◌}
-use Rattle.std.proofs.Common.{sym, ap, ◌∙◌, arith}
-use Rattle.std.proofs.Math.Decide.{dec_le, dec_lt}
+-- Where a stretch starts, and which ones a new letter ends (the paper, Section 3).
+use Rattle.std.specs.Prelude.{◌≡◌, ℕ, suc, ◌+◌}
 use Rattle.models.specs.Centres.{EndingAt, Widest}
 
 -- Where stretches start

@@ -1,11 +1,6 @@
--- The scan finds the longest ending, and keeps the radii and the lend lists right (the paper, Section 3, lines 2 to 7).
-use Rattle.std.specs.Prelude.{◌≡◌, Bool, List, length, set}
-use Rattle.std.proofs.Math.Path.{refl}
-use Rattle.std.proofs.Common.{sym, ◌∙◌, length-set}
-use Rattle.std.proofs.Math.Bool.{true, false}
-use Prim.Native.Nat.{ℕ, zero, suc, ◌+◌, ◌*◌, ◌-◌, ◌/◌, ◌≤◌, ◌<◌}
-use native.Mathlib.Omega.{arith}
-use Rattle.std.proofs.Math.Decide.{ℕ_discrete}
+-- What the scan finds and keeps: the longest ending, the radii and the lend lists (the paper, Section 3, lines 2 to 7).
+use Rattle.std.specs.Prelude.{◌≡◌, List, length}
+use Prim.Native.Nat.{ℕ, suc, ◌+◌, ◌*◌, ◌/◌, ◌≤◌, ◌<◌}
 use Rattle.cells.specs.Lanes.{centre_entries, place_entries}
 use Rattle.words.specs.Definitions.{Largest}
 use Rattle.models.specs.Centres.{EndingAt, Widest, LongestEndingAt}

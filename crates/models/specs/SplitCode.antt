@@ -1,13 +1,8 @@
--- How the code of the split goes through its model: the search for a start, from section to section, and the turn count.
-use Rattle.std.specs.Prelude.{◌≡◌, Bool, List, [], ◌∷◌, ◌++◌, leb, eqb, length, drop, set}
-use Rattle.std.proofs.Math.Path.{refl, sym, ap, subst}
-use Rattle.std.proofs.Common.{◌∙◌, true≢false, add-one, length-append, drop_of_length-le, drop-cons, eq-eqb, ne_eqb}
-use Rattle.std.proofs.Math.Bool.{true, false, cond}
-use Rattle.std.proofs.lemmas.Bool.{false≢true}
+-- The ends of a split as they are stored.
+use Rattle.std.specs.Prelude.{◌≡◌, Bool, List, length}
+use Rattle.std.proofs.Math.Bool.{true, false}
 use Rattle.std.proofs.Math.Option.{Option, some, none}
-use Prim.Native.Nat.{ℕ, zero, suc, ◌+◌, ◌-◌, ◌/◌, ◌≤◌, ◌<◌}
-use native.Mathlib.Omega.{arith}
-use Rattle.std.proofs.Math.Decide.{ℕ_discrete}
+use Prim.Native.Nat.{ℕ}
 use Rattle.std.proofs.lemmas.List.Edits.{sets}
 use Rattle.words.specs.Definitions.{Rising}
 

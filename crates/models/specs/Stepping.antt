@@ -1,14 +1,9 @@
--- The engine's invariant: one letter more keeps it, and the row word, the visits and their count are those of `words`.
+-- The engine's invariant: the row word, the visits and their count are those of `words`.
 use Rattle.std.specs.Prelude.{◌≡◌, List, ◌++◌}
-use Rattle.std.proofs.Math.Path.{sym, ap}
-use Rattle.std.proofs.Common.{subst, set, ◌∙◌, arith}
-use Prim.Native.Nat.{ℕ, suc, ◌+◌, ◌-◌, ◌≤◌, ◌<◌}
-use Rattle.std.proofs.Math.Decide.{ℕ_discrete}
-use Rattle.std.proofs.Math.ListN.{length, drop, length-set}
-use Rattle.std.proofs.Math.Seq.{sets-eq}
-use Rattle.std.specs.Int.Bits.{bit_or}
+use Prim.Native.Nat.{ℕ, ◌≤◌}
+use Rattle.std.proofs.Math.ListN.{length, drop}
 use Rattle.cells.specs.Lanes.{place_entries}
-use Rattle.words.specs.Computed.{visits, row_word, gathered, gathered_word}
+use Rattle.words.specs.Computed.{visits, row_word, gathered_word}
 use Rattle.models.specs.Engine.{Stepped}
 use Rattle.models.specs.Stores.{at}
 

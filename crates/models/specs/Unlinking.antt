@@ -1,8 +1,6 @@
--- The walk over a lend list takes those centres out of the list of endings that the new letter ended (the paper, Section 3, lines 9 to 11).
-use Rattle.std.specs.Prelude.{◌≡◌, List, length, set}
-use Rattle.std.proofs.Common.{◌∙◌, arith, length-set, lt-ltb}
-use Prim.Native.Nat.{ℕ, zero, suc, ◌+◌, ◌*◌, ◌-◌, ◌/◌, ◌≤◌, ◌<◌}
-use Rattle.std.proofs.Math.Decide.{dec_lt, ℕ_discrete}
+-- What the walk over a lend list has done and has to do (the paper, Section 3, lines 9 to 11).
+use Rattle.std.specs.Prelude.{◌≡◌, length}
+use Prim.Native.Nat.{ℕ, suc, ◌+◌, ◌*◌, ◌<◌}
 use Rattle.cells.specs.Lanes.{centre_entries}
 use Rattle.models.specs.Centres.{EndingAt}
 use Rattle.models.specs.Linked.{Linked}

@@ -21,7 +21,7 @@ use Rattle.promises.specs.Answers.{Said, gave, reply}
 use Rattle.promises.specs.Refusals.{start_refusal}
 use Rattle.promises.specs.Marks.{mark_at, mark_length}
 use Rattle.promises.specs.Book.{Book, started_book, fed_book, loaded_book, marked_book, back_book, Call, start, feed, load, mark, back, ask, blank, start_taken, feed_taken, load_taken, mark_taken, back_taken, write, write_all, book_of}
-use Rattle.promises.specs.Replies.{reply_to, replies}
+use Rattle.promises.specs.Replies.{reply_to}
 use Rattle.promises.proofs.BookLaws.{Case, taken, left, start_cases}
 use Rattle.promises.specs.Holds.{Holds}
 use Rattle.promises.proofs.WritingLaws.{start_holds}

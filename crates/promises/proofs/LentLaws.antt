@@ -8,7 +8,6 @@ use Rattle.std.proofs.lemmas.List.Edits.{sets}
 use Rattle.cells.specs.declared.Numbers.{Numbers}
 use Rattle.words.specs.Definitions.{most_picks, most_sections, word, turn_count}
 use Rattle.words.specs.Ranges.{between}
-use Rattle.models.specs.Stores.{at}
 use Rattle.models.proofs.Stores.{sets_front}
 use Rattle.models.specs.Iterator.{longest_of}
 use Rattle.models.specs.Splitting.{split_by}

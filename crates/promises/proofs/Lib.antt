@@ -1,3 +1,16 @@
+-- laws
+pub mod Lifts
+pub mod LiftLaws
+pub mod MarkLaws
+pub mod RefusalLaws
+pub mod BookLaws
+pub mod WritingLaws
+pub mod BackLaws
+pub mod MarkingLaws
+pub mod ReadingLaws
+pub mod LentLaws
+pub mod ShowLaws
+-- the demands
 pub mod Keeping
 pub mod Listing
 pub mod Finding
@@ -20,14 +33,3 @@ pub mod LiftExamples
 pub mod MarkExamples
 pub mod LikeWords
 pub mod Alike
-pub mod LiftLaws
-pub mod MarkLaws
-pub mod RefusalLaws
-pub mod BookLaws
-pub mod WritingLaws
-pub mod BackLaws
-pub mod MarkingLaws
-pub mod ReadingLaws
-pub mod LentLaws
-pub mod ShowLaws
-pub mod Lifts

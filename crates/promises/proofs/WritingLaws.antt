@@ -9,7 +9,6 @@ use Rattle.std.proofs.Math.ListN.{get_or-append}
 use Rattle.std.proofs.Math.Seq.{get_or-append_seam}
 use Rattle.cells.specs.Lanes.{ByCentre, ByPlace}
 use Rattle.words.specs.Definitions.{most_picks, most_sections, word}
-use Rattle.words.specs.Computed.{visits}
 use Rattle.words.specs.Computed.{mask as mask_of}
 use Rattle.words.proofs.Laws.{row_lt}
 use Rattle.words.proofs.Prefixes.{Agree}

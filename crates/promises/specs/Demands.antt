@@ -11,7 +11,7 @@ use Rattle.promises.specs.declared.Loaded.{Loaded}
 use Rattle.promises.specs.declared.Marked.{Marked}
 use Rattle.promises.specs.Answers.{Said, gave, refused, refused_at, Under, Reply, reply, filled, start_says, feed_says, load_says, mark_says}
 use Rattle.promises.specs.Lifts.{lift_in, FirstZero}
-use Rattle.promises.specs.Book.{Book, Call, start, feed, load, mark, back, ask, split, longest, mask, next, fold, lift, blank, lent, lifted, fed_lifted, start_taken, feed_taken, load_taken, mark_taken, back_taken, book_of}
+use Rattle.promises.specs.Book.{Book, Call, load, ask, split, longest, mask, next, fold, lift, blank, lent, lifted, fed_lifted, start_taken, feed_taken, load_taken, mark_taken, back_taken, book_of}
 use Rattle.promises.specs.Listed.{Line, First, NoneMet, listed, sought, lines, show_lines}
 use Rattle.promises.specs.Says.{Yes, Says, PartOf}
 use Rattle.promises.specs.State.{state_of_book}

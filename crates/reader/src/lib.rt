@@ -13,7 +13,7 @@ mod step;
 pub mod unfold;
 
 // Document 02, "The reader keeps the record's bytes and its place in them": it begins at place 0.
-#[derive(Clone, Copy)]
+#[derive(Drop)]
 pub struct Reader<'a> {
     pub bytes: &'a [u8],
     pub at: usize,

@@ -2,11 +2,11 @@
 use Rattle.std.specs.Prelude.{◌≡◌, ◌↔◌}
 use Rattle.std.proofs.Common.{sym, ◌∙◌, mul-le-mul_right, lt_of_mul-lt-mul_right}
 use Rattle.std.proofs.Math.Path.{ap}
-use Prim.Native.Nat.{ℕ, zero, suc, ◌+◌, ◌-◌, ◌*◌, max, ◌≤◌, ◌<◌}
+use Prim.Native.Nat.{ℕ, zero, suc, ◌+◌, ◌-◌, ◌*◌, ◌≤◌, ◌<◌}
 use native.Mathlib.Omega.{arith}
 use Rattle.std.proofs.Math.Decide.{dec_lt, ℕ_discrete}
 use Rattle.std.specs.Int.Bits.{bit_or}
-use Rattle.words.specs.Definitions.{prefix, Joined, LeastPeriod, LeadsFrom, LastLead, NextLeading, bit, RowWord, UnionTo, GatheredWord}
+use Rattle.words.specs.Definitions.{LeastPeriod, LeadsFrom, LastLead, bit, RowWord, UnionTo, GatheredWord}
 use Rattle.words.specs.Search.{largest, largest_one, smallest_one}
 use Rattle.words.specs.Mirror.{single_ending}
 use Rattle.words.proofs.Bits.{union_bit, same_bits}

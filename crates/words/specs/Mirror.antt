@@ -5,7 +5,7 @@ use mathlib.Core.List.{List, [], ◌∷◌, ◌++◌, reverse, reverse-cons}
 use Rattle.std.proofs.Math.Decide.{dec_le, ℕ_discrete}
 use Rattle.std.proofs.lemmas.List.{length-reverse, get_or_at}
 use Rattle.std.proofs.Math.ListN.{get_or-append}
-use Rattle.words.specs.Definitions.{word, stretch, prefix, Palindrome, Section, Ending, Mirrored}
+use Rattle.words.specs.Definitions.{word, stretch, prefix, Palindrome, Section, Ending}
 use Rattle.words.specs.Search.{map?, both?, all?}
 
 -- the letters of a stretch

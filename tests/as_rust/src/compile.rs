@@ -11,12 +11,10 @@ use std::process::Command;
 /// The name of the shared library.
 pub const SHARED: &str = "board_text";
 
-/// What stands around the text: the C functions, and what the programs take of the toolchain.
+/// What stands around the text: the C functions, and a program's host, by its name in the text.
 const EXPORTS: &str = include_str!("../rust/exports.rs");
-const TOOLCHAIN: [(&str, &str); 2] = [
-    ("libc", include_str!("../rust/libc.rs")),
-    ("io", include_str!("../rust/io.rs")),
-];
+const HOST: &str = include_str!("../rust/host.rs");
+const HOST_NAME: &str = "host";
 
 const FLAGS: [&str; 6] = [
     "--edition=2021",
@@ -105,11 +103,11 @@ impl Build {
     pub fn program(&self, crates: &[Crate], sources: &Sources, anew: &BTreeSet<String>) -> Made {
         let (program, libraries) = crates.split_last().ok_or("no program")?;
         self.crates(libraries, sources, anew)?;
-        for (name, rust) in TOOLCHAIN {
-            let path = self.write(name, rust)?;
-            self.rustc(&path, name, Kind::Crate, &program.needs)?;
-        }
-        self.compile(program, sources, Kind::Program)
+        let host = self.write(HOST_NAME, HOST)?;
+        self.rustc(&host, HOST_NAME, Kind::Crate, &[])?;
+        let mut program = program.clone();
+        program.needs.push(HOST_NAME.to_string());
+        self.compile(&program, sources, Kind::Program)
     }
 
     fn crates(

@@ -60,9 +60,13 @@ fn crates_of(root: &Path, last: &str) -> io::Result<Vec<Crate>> {
     Ok(all.iter().filter(taken).cloned().collect())
 }
 
+/// What stands behind the name of a static library.
+const STATIC: &str = " staticlib";
+
 fn named(name: &str, needs: &str) -> Crate {
+    let name = name.trim();
     Crate {
-        name: name.trim().to_string(),
+        name: name.strip_suffix(STATIC).unwrap_or(name).to_string(),
         needs: needs.split_whitespace().map(String::from).collect(),
     }
 }

@@ -1,14 +1,22 @@
 //! A source in Rattle as Rust: every line as it stands, but for what Rust does not have.
 //!
 //! Left out are imports of the proofs (`ghost use ..;`), the clauses of a contract (`requires`
-//! and `ensures`, with all lines up to their closing brace) and `#[no_mangle]`, since a slice has
-//! no C form in Rust: the functions are exported by `exports.rs`. Added is one line before each
-//! struct and enum, which Rattle copies. Whatever else Rust does not have is refused.
+//! and `ensures`, with all lines up to their closing brace), attributes for the prover (`tactic`
+//! and `cycle`), `#[derive(Drop)]`, since Rust drops every value, and `#[unsafe(no_mangle)]`,
+//! since a slice has no C form in Rust: the functions are exported by `exports.rs`. A program's
+//! `main` makes its host itself, which `host.rs` has. Whatever else Rust does not have is refused.
 
 use std::fmt;
 
-/// The line before each struct and enum.
-pub const DERIVED: &str = "#[derive(Clone, Copy)]";
+/// The line before a type that is copied, in both.
+pub const COPIED: &str = "#[derive(Clone, Copy)]";
+
+/// The line before a type that is dropped and not copied, in Rattle.
+pub const DROPPED: &str = "#[derive(Drop)]";
+
+/// How a program's `main` begins, and the same in Rust.
+pub const MAIN: &str = "fn main(rt: HostRuntime) -> io::Result<()> {";
+pub const RUST_MAIN: &str = "fn main() -> io::Result<()> {\n    let rt = host::HostRuntime;";
 
 /// A line that is not known, counted from 1.
 #[derive(Debug, PartialEq, Eq)]
@@ -24,10 +32,9 @@ impl fmt::Display for Unknown {
 }
 
 /// What becomes of a line outside of a clause.
-enum Line {
-    Kept,
-    /// Kept, behind the derived line.
-    Type,
+enum Line<'a> {
+    /// It, or another in its place.
+    Written(&'a str),
     Left,
     /// Left out, and so is all up to the brace that closes it.
     Clause,
@@ -37,20 +44,19 @@ enum Line {
 pub fn rust_of(source: &str) -> Result<String, Unknown> {
     let mut rust = String::new();
     let mut open = 0;
-    for (at, line) in source.lines().enumerate() {
+    let mut lines = source.lines().enumerate().peekable();
+    while let Some((at, line)) = lines.next() {
         let unknown = |why| Unknown { line: at + 1, why };
+        let next = lines.peek().map_or("", |(_, next)| next);
         let kind = if open > 0 {
             Line::Clause
         } else {
-            line_of(line).map_err(unknown)?
+            line_of(line, next).map_err(unknown)?
         };
         match kind {
             Line::Clause => open = left_open(open, line).map_err(unknown)?,
             Line::Left => {}
-            Line::Type => {
-                rust.extend([DERIVED, "\n", line, "\n"]);
-            }
-            Line::Kept => rust.extend([line, "\n"]),
+            Line::Written(line) => rust.extend([line, "\n"]),
         }
     }
     if open > 0 {
@@ -61,19 +67,22 @@ pub fn rust_of(source: &str) -> Result<String, Unknown> {
     Ok(rust)
 }
 
-/// What a line is that begins outside of a clause.
-fn line_of(line: &str) -> Result<Line, &'static str> {
+/// What a line is that begins outside of a clause, before that other line.
+fn line_of<'a>(line: &'a str, next: &str) -> Result<Line<'a>, &'static str> {
     let code = line.trim_start();
     match line {
-        _ if code.starts_with("//") => Ok(Line::Kept),
+        _ if code.starts_with("//") => Ok(Line::Written(line)),
         _ if opens_clause(line) => Ok(Line::Clause),
         _ if line.starts_with("ghost use ") && line.ends_with(';') => Ok(Line::Left),
-        "#[no_mangle]" => Ok(Line::Left),
+        COPIED if is_type(next) => Ok(Line::Written(line)),
+        DROPPED if is_type(next) => Ok(Line::Left),
+        "#[unsafe(no_mangle)]" => Ok(Line::Left),
+        MAIN => Ok(Line::Written(RUST_MAIN)),
+        _ if is_for_the_prover(line) => Ok(Line::Left),
         _ if code.starts_with('#') => Err("an attribute"),
         _ if !code.is_ascii() => Err("a character that is not ASCII, outside of a clause"),
         _ if WORDS.iter().any(|word| has_word(code, word)) => Err("a word of proofs"),
-        _ if is_type(line) => Ok(Line::Type),
-        _ => Ok(Line::Kept),
+        _ => Ok(Line::Written(line)),
     }
 }
 
@@ -90,8 +99,16 @@ fn is_part_of_name(c: char) -> bool {
     c.is_ascii_alphanumeric() || c == '_'
 }
 
+/// Whether the line is a whole attribute that says how something is proved.
+fn is_for_the_prover(line: &str) -> bool {
+    let words = ["#![tactic(", "#[tactic(", "#[cycle("];
+    let rest = words.iter().find_map(|word| line.strip_prefix(word));
+    let inside = rest.and_then(|rest| rest.strip_suffix(")]"));
+    inside.is_some_and(|inside| inside.is_ascii() && !inside.contains([']', '"']))
+}
+
 /// Words of Rattle that Rust does not have, or not in this sense.
-const WORDS: [&str; 8] = [
+const WORDS: [&str; 10] = [
     "ghost",
     "requires",
     "ensures",
@@ -100,6 +117,8 @@ const WORDS: [&str; 8] = [
     "assert",
     "assume",
     "trusted",
+    "prove",
+    "HostRuntime",
 ];
 
 /// Whether the code has the word, by itself.
@@ -108,11 +127,10 @@ fn has_word(code: &str, word: &str) -> bool {
     words.any(|found| found == word)
 }
 
-/// Whether the line begins a type without a lifetime: one with a lifetime is lent, not copied.
+/// Whether the line begins a type.
 fn is_type(line: &str) -> bool {
     let bare = line.strip_prefix("pub ").unwrap_or(line);
-    let named = bare.starts_with("struct ") || bare.starts_with("enum ");
-    named && !line.contains('<')
+    bare.starts_with("struct ") || bare.starts_with("enum ")
 }
 
 /// How many braces of a clause are open behind the line; nothing may follow the last one.

@@ -4,8 +4,8 @@
 
 use std::fs::read_to_string;
 
-/// The code of the crate `board`, as `rt check board` leaves it.
-const CODE: &str = "../target/rlib/board.rlib/toolchain/mir.json";
+/// The code of the crate `board`, as `rt ci`, or `rt lib` in its folder, leaves it.
+const CODE: &str = "../crates/board/out/rlib/board.rlib/toolchain/mir.json";
 
 /// Where the state is declared.
 const DECLARED: &str = "../crates/promises/src/lib.rt";
@@ -15,7 +15,8 @@ const STATE: &str = r#"{"Copy":{"local":1,"steps":["#;
 const FIELD: &str = r#"{"Field":"#;
 
 fn text(path: &str) -> String {
-    read_to_string(path).unwrap_or_else(|error| panic!("{path}: {error}: run `rt check board`"))
+    read_to_string(path)
+        .unwrap_or_else(|error| panic!("{path}: {error}: run `rt lib` in crates/board"))
 }
 
 /// The number at the start of a text.
@@ -37,13 +38,14 @@ fn fields() -> Vec<String> {
         .collect()
 }
 
-/// The code of one call.
+/// The code of one call. The functions of the crate are one list.
 fn code(call: &str) -> String {
     let all = text(CODE);
-    let start = format!(r#"["board::{call}","#);
-    let (_, after) = all.split_once(&start).expect("the call");
-    let (code, _) = after.split_once(r#"["board::"#).unwrap_or((after, ""));
-    code.to_owned()
+    let functions = all.strip_prefix(r#"[["board::"#).expect("the list");
+    let start = format!(r#"{call}","#);
+    let mut functions = functions.split(r#"],["board::"#);
+    let code = functions.find_map(|function| function.strip_prefix(&start));
+    code.expect("the call").to_owned()
 }
 
 /// The arrays of the state that a call copies, in the order of its code.

@@ -10,6 +10,7 @@ fn listed() -> Vec<(String, Vec<String>)> {
         .filter_map(|line| line.split_once(':'))
         .map(|(name, below)| {
             let below = below.split_whitespace().map(String::from).collect();
+            let name = name.strip_suffix(" staticlib").unwrap_or(name);
             (name.to_string(), below)
         })
         .collect()

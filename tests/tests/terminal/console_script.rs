@@ -24,11 +24,11 @@ fn assert_answers(folder: &Folder, arguments: &[&str], line: &str, answer: &str)
     assert_eq!(output.status.code(), Some(0), "{line}");
 }
 
-/// The folders of the sources, and their list.
-const SOURCES: [&str; 4] = ["crates", "crates.txt", "rust", "console"];
+/// The files among the sources: their list, and the stand-ins for steps.
+const SOURCES: [&str; 3] = ["crates.txt", "crates/draft/run", "crates/drive/lib"];
 
-/// What cargo writes to beside the sources.
-const MADE: [&str; 2] = ["rust/target", "console/target"];
+/// What cargo and rt write to beside the sources.
+const MADE: [&str; 3] = ["rust/target", "console/target", "crates/drive/out"];
 
 /// A folder with the script, sources of long ago, and an executable that is newer.
 fn built_before(name: &str) -> Folder {
@@ -85,8 +85,8 @@ fn symbolic_links() {
     }
 }
 
-/// A source that is newer than the program is built, once; what cargo writes beside the
-/// sources is none.
+/// A source that is newer than the program is built, once; what cargo and rt write beside
+/// the sources is none.
 #[test]
 fn newer_sources() {
     for source in ["crates/new", "crates.txt", "rust/new", "console/new"] {
@@ -108,7 +108,7 @@ fn newer_sources() {
 /// What a failed step printed is shown, with the step; the program is not run.
 #[test]
 fn a_step_that_fails() {
-    for (step, name) in [("staticlib", "rt staticlib"), ("build", "cargo build")] {
+    for (step, name) in [("crates/drive/lib", "rt lib"), ("build", "cargo build")] {
         let folder = built_before("failed");
         let newer = folder.path().join("crates/new");
         write(newer, "").expect("room for a file");

@@ -2,35 +2,45 @@
 //! refused.
 
 use as_rust::sources::{Text, DRAFT, EDGES, LIBRARY};
-use as_rust::text::{rust_of, DERIVED};
+use as_rust::text::{rust_of, COPIED, DROPPED, MAIN, RUST_MAIN};
 use comparison::support::executables::of_text;
 use std::fs;
 use std::path::Path;
 use std::process::Command;
 
-/// What opens a clause, behind the signature of its function, and what closes it.
+/// What opens a clause, behind the signature of its function, and the brace that opens the body.
 const OPENINGS: [&str; 2] = ["\n    requires ", "\n    ensures "];
-const CLOSING: &str = "⌝ }";
+const BODY: &str = "\n{\n";
 
-/// The source without its clauses, by where these open and close in the whole text. Gives their
-/// number too.
+/// The source without its clauses, by where the contracts begin and the bodies in the whole text.
+/// Gives the number of clauses too.
 fn without_clauses(source: &str) -> (String, usize) {
     let (mut kept, mut rest, mut clauses) = (String::new(), source, 0);
     while let Some(from) = OPENINGS.iter().filter_map(|word| rest.find(word)).min() {
-        let (front, clause) = rest.split_at(from);
-        let end = clause.find(CLOSING).expect("a clause is closed") + CLOSING.len();
-        assert!(clause[end..].starts_with('\n'), "{}", &clause[..end]);
+        let (front, behind) = rest.split_at(from);
+        let (contract, _) = behind.split_once(BODY).expect("a body");
         kept.push_str(front);
-        rest = &clause[end..];
-        clauses += 1;
+        rest = &behind[contract.len()..];
+        let opened = OPENINGS.map(|word| contract.matches(word).count());
+        clauses += opened.iter().sum::<usize>();
     }
     kept.push_str(rest);
     (kept, clauses)
 }
 
-/// The lines that are not left out for what they are.
+/// How a line begins that is left out for what it is.
+const LEFT: [&str; 6] = [
+    "ghost use ",
+    DROPPED,
+    "#[unsafe(no_mangle)]",
+    "#![tactic(",
+    "#[tactic(",
+    "#[cycle(",
+];
+
+/// The other lines.
 fn plain_lines(text: &str) -> Vec<&str> {
-    let left = |line: &&str| line.starts_with("ghost use ") || *line == "#[no_mangle]";
+    let left = |line: &&str| LEFT.iter().any(|word| line.starts_with(word));
     text.lines().filter(|line| !left(line)).collect()
 }
 
@@ -44,7 +54,8 @@ fn nothing_but_clauses_is_left_out() {
     for (path, source) in &text().sources {
         let rust = rust_of(source).unwrap_or_else(|unknown| panic!("{path}, {unknown}"));
         let (expected, clauses) = without_clauses(source);
-        let written: Vec<&str> = rust.lines().filter(|line| *line != DERIVED).collect();
+        let expected = expected.replace(MAIN, RUST_MAIN);
+        let written: Vec<&str> = rust.lines().collect();
         assert_eq!(written, plain_lines(&expected), "{path}");
         all += clauses;
     }
@@ -52,19 +63,13 @@ fn nothing_but_clauses_is_left_out() {
 }
 
 #[test]
-fn a_line_is_added_before_each_type_alone() {
+fn a_line_stands_before_each_type_alone() {
     for (path, source) in &text().sources {
-        let rust = rust_of(source).unwrap_or_else(|unknown| panic!("{path}, {unknown}"));
-        for pair in rust.lines().collect::<Vec<_>>().windows(2) {
-            let added = pair[0] == DERIVED;
+        for pair in source.lines().collect::<Vec<_>>().windows(2) {
+            let derived = [COPIED, DROPPED].contains(&pair[0]);
             let mut words = pair[1].split(' ').filter(|word| *word != "pub");
             let opens = ["struct", "enum"].contains(&words.next().unwrap_or_default());
-            assert_eq!(
-                added,
-                opens && !pair[1].contains('<'),
-                "{path}: {}",
-                pair[1]
-            );
+            assert_eq!(derived, opens, "{path}: {}", pair[1]);
         }
     }
 }
@@ -95,29 +100,80 @@ fn function(contract: &str, body: &str) -> String {
 #[test]
 fn a_contract_of_several_lines_is_left_out_whole() {
     let contract =
-        "    requires { ⌜ (x < 4)\n        × P { x } ⌝ }\n    ensures { λ r. ⌜ r ≡ x ⌝ }\n";
+        "    requires { (x < 4)\n        × P { x } }\n    ensures value { result ≡ x }\n";
     let without = function("", "");
     assert_eq!(rust_of(&function(contract, "")), Ok(without));
+}
+
+/// The attributes that are known, each before a function: no other is, and none before another
+/// item than its own.
+#[test]
+fn attributes_before_a_function() {
+    let without = function("", "");
+    let before = |line: &str| rust_of(&format!("{line}\n{without}"));
+    for known in [
+        "#![tactic(auto)]",
+        "#[tactic(auto, using(crate::proofs::Facts::fact))]",
+        "#[cycle(walk)]",
+        "#[unsafe(no_mangle)]",
+    ] {
+        assert_eq!(before(known), Ok(without.clone()), "{known}");
+    }
+    for unknown in [
+        "#[inline]",
+        "#[no_mangle]",
+        "#[derive(Debug)]",
+        COPIED,
+        DROPPED,
+        "#[tactic(auto)] #[inline]",
+        "#[tactic(auto,",
+    ] {
+        assert!(before(unknown).is_err(), "{unknown}");
+    }
+}
+
+#[test]
+fn attributes_before_a_type() {
+    let typed = |attribute: &str, line: &str| rust_of(&format!("{attribute}\n{line}\n"));
+    for line in [
+        "pub struct Pair(u8, u8);",
+        "enum Side {",
+        "pub struct Reader<'a> {",
+    ] {
+        assert_eq!(typed(COPIED, line), Ok(format!("{COPIED}\n{line}\n")));
+        assert_eq!(typed(DROPPED, line), Ok(format!("{line}\n")));
+        assert!(typed("#[derive(Debug)]", line).is_err(), "{line}");
+    }
+}
+
+#[test]
+fn a_program_makes_its_host() {
+    let rust = rust_of(&format!("{MAIN}\n    run(rt)\n}}\n"));
+    assert_eq!(rust, Ok(format!("{RUST_MAIN}\n    run(rt)\n}}\n")));
+    assert!(rust_of("fn main(rt: HostRuntime) {\n}\n").is_err());
 }
 
 #[test]
 fn what_is_not_known_is_refused() {
     let clauses = [
-        "    requires { ⌜ x < 4 ⌝\n",
-        "    requires { ⌜ x < 4 ⌝ } {\n",
+        "    requires { x < 4\n",
+        "    requires { x < 4 } {\n",
         "    requires x < 4\n",
         "    requires (x) { x }\n",
-        "    ensures { ⌜ x < 4 ⌝ }}\n",
+        "    ensures { x < 4 }}\n",
         "    decreases { x }\n",
     ];
     let lines = [
         "    ghost let y = x;\n",
-        "    ghost use lib.ListN;\n",
+        "    ghost use Rattle.std.specs.Prelude;\n",
         "        ensures { x };\n",
         "    invariant { x < 4 }\n",
         "    let y = x; // y ≡ x\n",
         "    #[inline]\n",
         "    let y = trusted(x);\n",
+        "    prove!(x < 4);\n",
+        "    #[tactic(auto)]\n",
+        "    let y = rt(HostRuntime);\n",
     ];
     let named = function("", "    ensures_it(x);\n");
     assert_eq!(rust_of(&named), Ok(named));

@@ -12,10 +12,11 @@ use std::process::Command;
 /// Stands in for each step of a build: ends once the executable is there, and then has
 /// made the library and what cargo makes, or fails at last.
 const STEP: &str = r#"
-    for look in $(seq 3000); do [ -e target/bin/PROGRAM ] && break; sleep 0.01; done
-    mkdir -p target/staticlib target/console/release
-    : >target/staticlib/libdrive.a
-    cp target/bin/PROGRAM target/console/release
+    cd "$FOLDER"
+    for look in $(seq 3000); do [ -e PROGRAM ] && break; sleep 0.01; done
+    mkdir -p crates/drive/out target/console/release
+    : >crates/drive/out/libdrive.a
+    cp PROGRAM target/console/release
 "#;
 
 /// The folder, which is removed when its test ends, and the script's name.
@@ -33,16 +34,19 @@ impl Folder {
     }
 
     /// A folder with the script alone. The `rt` and the `cargo` that it calls there are
-    /// the shell, which is given a stand-in of the step to run.
+    /// the shell, which is given a stand-in of the step to run, where the step runs.
     pub fn unbuilt(script: &'static str, name: &str) -> Folder {
         let folder = own_name(&format!("{script}_{name}"));
         let path = Path::new(env!("CARGO_TARGET_TMPDIR")).join(folder);
         remove_dir_all(&path).ok();
-        for part in ["crates", "rust", "console", "bin", "temporary"] {
+        for part in ["crates/drive", "crates/draft", "rust", "console"] {
+            create_dir_all(path.join(part)).expect("a folder of sources");
+        }
+        for part in ["bin", "temporary"] {
             create_dir_all(path.join(part)).expect("a folder to run in");
         }
         write(path.join("crates.txt"), "").expect("room for a file");
-        for step in ["check", "staticlib", "build"] {
+        for step in ["crates/draft/run", "crates/drive/lib", "build"] {
             let text = STEP.replace("PROGRAM", program_of(script));
             write(path.join(step), text).expect("room for a file");
         }
@@ -70,7 +74,7 @@ impl Folder {
 
     /// The place of the executable.
     pub fn program(&self) -> PathBuf {
-        self.path.join("target/bin").join(program_of(self.script))
+        self.path.join(program_of(self.script))
     }
 
     /// The folder itself.
@@ -89,7 +93,8 @@ impl Folder {
                 "PATH",
                 format!("{}:{rest}", self.path.join("bin").display()),
             )
-            .env("TMPDIR", self.path.join("temporary"));
+            .env("TMPDIR", self.path.join("temporary"))
+            .env("FOLDER", &self.path);
         command
     }
 }
@@ -100,11 +105,11 @@ impl Drop for Folder {
     }
 }
 
-/// The name of the program that the script runs.
+/// The place of the program that the script runs.
 fn program_of(script: &str) -> &'static str {
     match script {
-        "draft" => "draft",
-        _ => "console",
+        "draft" => "crates/draft/out/draft",
+        _ => "target/bin/console",
     }
 }
 
