@@ -1,9 +1,7 @@
+-- One call more, or the end of the script.
 use Rattle.std.proofs.Common.{refl}
-use Rattle.drive.proofs.Onward.{inside_first, inside_next, fewer_left}
+use Rattle.drive.proofs.Onward.{inside_next, fewer_left}
 use Rattle.drive.proofs.drive.Goals as goal
-
-pub loop-at-init : goal.loop-at-init
-loop-at-init c = rw c.outset-at.ensures (inside_first _ _ _ _)
 
 pub loop-at-smaller : goal.loop-at-smaller
 loop-at-smaller c = fewer_left c.loop-at-test.true c.advance-at.ensures
