@@ -1,8 +1,6 @@
 -- Scripts one after another: what is proved of every run holds of what `drive` did.
-use mathlib.Core.Path.{◌≡◌, refl, sym, ap, ap₂, ◌∙◌}
-use mathlib.Core.List.{List, [], ◌∷◌, ◌++◌, map, map-append}
-use Prim.Native.Nat.{ℕ}
-use lib.ListN.{length, length-map}
+use Rattle.std.proofs.Common.{◌≡◌, refl, sym, ap, ap₂, ◌∙◌, ℕ, List, [], ◌∷◌, ◌++◌, length, map}
+use Rattle.std.proofs.lemmas.List.{map-append, length-map}
 use Rattle.words.proofs.Cases.{clash}
 use Rattle.promises.specs.declared.Draft.{Draft}
 use Rattle.promises.specs.declared.Started.{Started}
@@ -11,19 +9,19 @@ use Rattle.promises.specs.Book.{Book, Call, start, blank, write_all, book_of}
 use Rattle.promises.specs.State.{state_of_book}
 use Rattle.promises.specs.Replies.{replies}
 use Rattle.promises.specs.Runs.{Made, started, fed, loaded, marked, returned, asked, call_of, calls, reply_of, Run, last}
-use Rattle.promises.specs.Demands.{Opened}
 use Rattle.promises.proofs.Keeping.{run_join, last_join}
 use Rattle.promises.proofs.Transcript.{replied_split, transcript}
 use Rattle.promises.proofs.Stored.{state_of_book_lem}
 use Rattle.drive.specs.Script.{fills_lists, fills_bytes, list_from}
 use Rattle.drive.specs.Drives.{encoded, joined}
-use Rattle.drive.specs.Session.{Driven, DrivenFrom, asked_by, asked_by_all, Session, over, again, SessionRuns, Opens, OfEverySession, together, Outcome, Outcomes, SessionHolds}
+use Rattle.drive.specs.Session.{Driven, DrivenFrom, asked_by, asked_by_all, Session, over, again, SessionRuns, OfEverySession, together, Outcome, Outcomes, SessionHolds}
 
 -- One run
 
 pub session_runs : SessionRuns
 unfolding Run last asked_by_all
 session_runs d e [] [] over = record { run = tt; asks = refl; state = refl }
+session_runs d e [] (_ ∷ _) t = elim t [ ]
 session_runs d e (s ∷ ss) ms (again {ms = ys} h t) =
     let r = session_runs _ e ss ys t in
     record {
@@ -76,6 +74,7 @@ outcome b s h r = record {
 outcomes : {d e : Draft} (b : Book) (ss : List Driven) (ms : List Made) → Session d ss e ms → map reply_of ms ≡ replies b (calls ms) → Outcomes b ss
 unfolding Outcomes
 outcomes b [] [] over r = tt
+outcomes {d = d} {e = e} b [] (_ ∷ _) t r = elim t [ ]
 outcomes b (s ∷ ss) ms (again {ms = ys} h t) r =
     let p = replied_split b h.made ys r in
     (outcome b s h p.0, outcomes (write_all b (asked_by s)) ss ys t (rw h.asks at p.1))

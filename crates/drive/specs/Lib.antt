@@ -2,10 +2,9 @@
 pub mod Script
 pub mod Drives
 pub mod Session
--- laws
+-- for the calls, one at a time
 pub mod Parts
 pub mod Told
 pub mod Requests
 pub mod Calling
 pub mod Advancing
-pub mod Onward

@@ -62,6 +62,7 @@ pub fn is_call(op: u8) -> bool
 }
 
 // What the call of this number is lent; nothing where there is none.
+#[tactic(auto, unfolding(crate::specs::Script::source_at))]
 pub fn source_at(op: u8) -> u8
     ensures { result ≡ source_at op }
 {
