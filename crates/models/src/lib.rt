@@ -1,2 +1,2 @@
-// No code: what the iterator and the engine compute, their invariants and laws are in specs/.
+// No code: what the iterator and the engine compute, and their invariants, are in specs/, their laws in proofs/.
 #![tactic(auto)]

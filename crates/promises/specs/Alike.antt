@@ -35,7 +35,7 @@ alphabet = bytes "ABCDEFGHIJKLMNOPQRSTUVWXYZ"
 abbrev pub ReadAsLetters : Type 0
 ReadAsLetters = (row : List ℕ) → Every Letter row → lifted_by alphabet row ≡ row
 
--- so where no two letters lift alike, as in the fixed table (Lifts.fixed-distinct), nothing changes for any row of letters: every call of a
+-- so where no two letters lift alike, as in the fixed table (fixed_distinct in proofs/Lifts.antt), nothing changes for any row of letters: every call of a
 -- run is answered as document 01 has it, palindromes being read by letters
 abbrev pub ByLetters : List Made → Type 0
 ByLetters ms = (xs ys : List Made) (m : Made) → ms ≡ xs ++ m ∷ ys → Distinct (book_of (calls xs)).lifts → NoLift (call_of m)

@@ -122,7 +122,7 @@ unfolding row_word bits
 row_empty zero w = omega (arith, splits_one w 0 0 no_picks)
 row_empty (suc K) w = omega (arith, row_empty K w, splits_zero w 0 (suc K) (λ ends h. omega (arith, (cut h).last.some)))
 
--- Gathered values: Proposition3.gathered-is; here the stretch by which a place gathers
+-- Gathered values: Proposition3.gathered_is; here the stretch by which a place gathers
 
 -- the empty ending leads, so at its own end a place has a stretch that does
 pub empty_leads : (w : ℕ → ℕ) (n : ℕ) → Leading w n 0

@@ -1,4 +1,4 @@
--- The executable forms: each computes on a word's letters. Laws.antt says of each that it means its definition.
+-- The executable forms: each computes on a word's letters. proofs/Laws.antt says of each that it means its definition.
 -- A form whose name ends in ? decides the statement that stands in its type.
 use Rattle.std.specs.Prelude.{◌≡◌, refl, List, [], ◌∷◌, ◌++◌, ℕ, zero, suc, ◌+◌, ◌-◌, ◌*◌, ◌/◌, ◌%◌, ◌^◌, ◌<◌}
 use Rattle.std.proofs.Math.Option.{Option, some, none}
