@@ -70,6 +70,8 @@ fn a_line_stands_before_each_type_alone() {
             let mut words = pair[1].split(' ').filter(|word| *word != "pub");
             let opens = ["struct", "enum"].contains(&words.next().unwrap_or_default());
             assert_eq!(derived, opens, "{path}: {}", pair[1]);
+            let copied = pair[0] == COPIED;
+            assert_eq!(copied, opens && !pair[1].contains('<'), "{path}: {}", pair[1]);
         }
     }
 }
