@@ -1,6 +1,7 @@
 -- One pick: the line that is filled, and the state afterwards; and the picks of an input, one after another.
 use Rattle.std.specs.Prelude.{◌≡◌, Bool, true, false, not, ◌≢◌, List, [], ◌∷◌, ◌++◌, ℕ, ◌+◌, ◌-◌, ◌*◌, take}
 use Rattle.text.specs.Definitions.{line_end}
+use Rattle.cells.specs.declared.Numbers.{Numbers}
 use Rattle.promises.specs.declared.Draft.{Draft}
 use Rattle.promises.specs.Answers.{Said, gave, refused, refused_at, feed_says}
 use Rattle.promises.specs.Book.{Book, feed, write}
@@ -46,6 +47,13 @@ pub record Fills (d : Draft) (pick : ℕ) (over : Bool) (e : Draft) (line : List
 -- whatever the marks: the program has none, and a feed is not lent them
 abbrev pub FillsOn : (before : (marks : List ℕ) → Draft) (pick : ℕ) (over : Bool) (after : (marks : List ℕ) → Draft) (line : List ℕ) → Type 0
 FillsOn before pick over after line = (marks : List ℕ) → Fills (before marks) pick over (after marks) line
+
+-- the pick was fed, though nothing is known of what was written
+pub record FedWith (before : (marks : List ℕ) → Draft) (pick : ℕ) (after : (numbers : Numbers) (marks : List ℕ) → Draft) : Type 0 where
+  pub over : Bool
+  pub numbers : Numbers
+  pub line : List ℕ
+  pub fills : FillsOn before pick over (after numbers) line
 
 -- The picks of an input, taken one after another from the state d; lines is what was written, one line behind the other
 

@@ -1,6 +1,9 @@
 // The picks, one after another, on a state whose parts are lent to the board's calls.
-ghost use Rattle.std.specs.Prelude.{◌≡◌, false, ◌+◌, ◌≤◌, IfOk};
+ghost use Rattle.std.specs.Prelude.{◌≡◌, false, ◌+◌, ◌≤◌, IfOk, OnErr};
 ghost use Rattle.words.specs.Definitions.{most_picks};
+ghost use Rattle.cells.specs.Lanes.{by_centre, by_place};
+ghost use Rattle.promises.specs.State.{draft_in};
+ghost use Rattle.draft.specs.Filling.{FedWith};
 
 use crate::answer::{Answered, answer};
 use crate::input::{Input, next_pick};
@@ -12,7 +15,7 @@ use cells::{
 use std::io;
 use std::io::{Read, Write};
 
-// Feeds the pick after those that `held` tells and writes its line.
+// Feeds the pick after those that `held` tells and writes its line. Where the write fails, the pick is fed all the same.
 fn take_pick(
     letters: &mut Letters,
     codes: &mut Letters,
@@ -24,7 +27,10 @@ fn take_pick(
     output: &mut impl Write,
 ) -> io::Result<Answered>
     requires { held.n ≤ most_picks }
-    ensures { IfOk result (λ answered. answered.over ≡ false → answered.numbers.n ≡ held.n + 1) }
+    ensures one_more { IfOk result (λ answered. answered.over ≡ false → answered.numbers.n ≡ held.n + 1) }
+    ensures unwritten { OnErr result (FedWith
+        (λ marks. draft_in held letters.old codes.old lifts.now marks (by_centre centres.old) (by_place places.old)) pick
+        (λ numbers marks. draft_in numbers letters.new codes.new lifts.now marks (by_centre centres.new) (by_place places.new))) }
 {
     let mut line = [0u8; ROOM];
     let answered = answer(

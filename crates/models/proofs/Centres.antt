@@ -5,7 +5,8 @@ use Rattle.std.proofs.Math.Decide.{dec_le}
 use Rattle.words.specs.Definitions.{length_at, LeastPeriod, Ending, LongestEnding, NextEnding, Mirrored}
 use Rattle.words.specs.Search.{largest_one}
 use Rattle.words.specs.Mirror.{mirror, ending}
-use Rattle.words.proofs.Prefixes.{Agree, agree_back}
+use Rattle.words.specs.Prefixes.{Agree}
+use Rattle.words.proofs.Prefixes.{agree_back}
 use Rattle.words.specs.Periods.{next_period}
 use Rattle.words.specs.Computed.{longest_centre, radius_at}
 use Rattle.words.proofs.Laws.{longest_is, radius_at_lem}

@@ -9,7 +9,7 @@ use Rattle.std.proofs.Math.Seq.{length-sets, get_or-append_seam}
 use Rattle.std.specs.Int.Bits.{bit_or}
 use Rattle.cells.specs.Lanes.{centre_entries, place_entries, ByCentre, ByPlace, with_heads}
 use Rattle.words.specs.Definitions.{most_picks, most_visits, word}
-use Rattle.words.proofs.Prefixes.{Agree}
+use Rattle.words.specs.Prefixes.{Agree}
 use Rattle.models.proofs.Centres.{longest_centre_at}
 use Rattle.models.specs.Iterator.{Iterator, appended}
 use Rattle.models.specs.Engine.{longest_length, walk_all, Stepped, stepped}

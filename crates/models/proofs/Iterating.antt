@@ -9,7 +9,8 @@ use Rattle.std.proofs.lemmas.Bool.{lt-leb}
 use Rattle.words.proofs.Cases.{true_false}
 use Rattle.words.specs.Definitions.{most_picks, length_at, LeastPeriod}
 use Rattle.words.specs.Periods.{whole_period}
-use Rattle.words.proofs.Prefixes.{Agree, agree_back}
+use Rattle.words.specs.Prefixes.{Agree}
+use Rattle.words.proofs.Prefixes.{agree_back}
 use Rattle.words.specs.Computed.{longest_centre, radius_at}
 use Rattle.models.specs.Centres.{EndingAt, Widest, NextEndingAt}
 use Rattle.models.proofs.Centres.{at_as, longest_centre_at, next_least, radius_widest}

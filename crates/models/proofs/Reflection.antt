@@ -2,7 +2,7 @@
 use Rattle.std.specs.Prelude.{◌≡◌, ℕ, suc, ◌+◌, ◌*◌, ◌-◌, min, ◌≤◌, ◌<◌}
 use Rattle.std.proofs.Common.{sym, ap, ◌∙◌, arith}
 use Rattle.std.proofs.Math.Decide.{dec_le, dec_lt}
-use Rattle.words.proofs.Prefixes.{Agree}
+use Rattle.words.specs.Prefixes.{Agree}
 use Rattle.models.specs.Centres.{EndingAt, Widest}
 use Rattle.models.proofs.Centres.{widest_as}
 use Rattle.models.specs.Reflection.{StartsAt, Lost}

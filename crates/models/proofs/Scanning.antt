@@ -8,7 +8,8 @@ use native.Mathlib.Omega.{arith}
 use Rattle.std.proofs.Math.Decide.{ℕ_discrete}
 use Rattle.cells.specs.Lanes.{place_entries}
 use Rattle.words.specs.Definitions.{most_picks}
-use Rattle.words.proofs.Prefixes.{Agree, agree_back}
+use Rattle.words.specs.Prefixes.{Agree}
+use Rattle.words.proofs.Prefixes.{agree_back}
 use Rattle.models.specs.Centres.{EndingAt, Widest}
 use Rattle.models.proofs.Centres.{widest_one, widest_as, longest_at_as}
 use Rattle.models.specs.Reflection.{StartsAt}

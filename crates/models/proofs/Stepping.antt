@@ -15,7 +15,8 @@ use Rattle.words.proofs.Laws.{row_empty}
 use Rattle.words.proofs.Series.{longest_leads}
 use Rattle.words.proofs.Proposition3.{gathered_own, gathered_kept}
 use Rattle.words.proofs.Rows.{row_law}
-use Rattle.words.proofs.Prefixes.{Agree, row_as, gathered_word_as}
+use Rattle.words.specs.Prefixes.{Agree}
+use Rattle.words.proofs.Prefixes.{row_as, gathered_word_as}
 use Rattle.models.specs.Centres.{LongestEndingAt}
 use Rattle.models.specs.Engine.{longest_length, Walked, walk_all, stepped}
 use Rattle.models.specs.Stores.{at}

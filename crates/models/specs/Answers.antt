@@ -3,7 +3,7 @@ use Rattle.std.specs.Prelude.{◌≡◌, cond, List, ℕ, suc, ◌+◌, ◌*◌,
 use Rattle.std.proofs.Math.Option.{Option, some, none}
 use Rattle.words.specs.Definitions.{length_at}
 use Rattle.words.specs.Computed.{longest_centre, NextShorter, next_shorter, next_after, radius_at}
-use Rattle.words.proofs.Prefixes.{Agree}
+use Rattle.words.specs.Prefixes.{Agree}
 use Rattle.models.specs.Centres.{EndingAt, NextEndingAt}
 use Rattle.models.specs.Iterator.{Iterator, radius_of, longest_of, is_ending, period_at, appended}
 use Rattle.models.specs.Stores.{at}

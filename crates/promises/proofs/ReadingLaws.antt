@@ -9,7 +9,7 @@ use Rattle.words.specs.Computed.{row_word, longest_centre, split_of}
 use Rattle.words.specs.Computed.{mask as mask_of}
 use Rattle.words.proofs.Laws.{row_lt}
 use Rattle.words.proofs.Splits.{Splitting, given, lacking, split_law}
-use Rattle.words.proofs.Prefixes.{Agree}
+use Rattle.words.specs.Prefixes.{Agree}
 use Rattle.models.specs.Stores.{at}
 use Rattle.models.specs.Scanning.{Radii}
 use Rattle.models.specs.Iterator.{longest_of}

@@ -11,7 +11,7 @@ use Rattle.cells.specs.Lanes.{ByCentre, ByPlace}
 use Rattle.words.specs.Definitions.{most_picks, most_sections, word}
 use Rattle.words.specs.Computed.{mask as mask_of}
 use Rattle.words.proofs.Laws.{row_lt}
-use Rattle.words.proofs.Prefixes.{Agree}
+use Rattle.words.specs.Prefixes.{Agree}
 use Rattle.models.proofs.Stores.{set_here, set_there}
 use Rattle.models.specs.Core.{Arrays, After, append, Appends, Means}
 use Rattle.models.proofs.Core.{append_arrays, means, held_none}

@@ -1,7 +1,7 @@
 -- When a state holds what stands in the book. It links one call's promise to the next; a reader need not believe it.
 use Rattle.std.specs.Prelude.{◌≡◌, ◌≤◌, length}
 use Rattle.words.specs.Definitions.{most_picks, most_sections, word}
-use Rattle.words.proofs.Prefixes.{Agree}
+use Rattle.words.specs.Prefixes.{Agree}
 use Rattle.models.specs.Core.{Holds as ArraysHold}
 use Rattle.promises.specs.declared.Draft.{Draft}
 use Rattle.promises.specs.Marks.{entries}

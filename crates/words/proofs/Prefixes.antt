@@ -7,6 +7,7 @@ use Prim.Native.Nat.{ℕ, zero, suc, ◌+◌, ◌-◌, ◌*◌, ◌≤◌, ◌<�
 use Rattle.std.proofs.Math.Decide.{dec_lt}
 use Rattle.std.specs.Int.Bits.{bit_or}
 use Rattle.words.specs.Definitions.{Ending, Mirrored, radius, Period, LeastPeriod, Leading, LastLead}
+use Rattle.words.specs.Prefixes.{Agree}
 use Rattle.words.specs.Search.{largest, largest_eq, largest_as, passing_as}
 use Rattle.words.specs.Mirror.{mirror, ending, ending?, mirrored?}
 use Rattle.words.specs.Computed.{leading?, leads_from?, least_period, longest, next_ending, radius_at, visits, cut_last, split_of, splits, row_word, join_steps, later_places, gather_over, gathered, gathered_word}
@@ -15,10 +16,6 @@ use Rattle.words.proofs.Lengths.{places_end}
 use Rattle.words.proofs.Bits.{bits_as}
 use Rattle.words.proofs.Proposition3.{gather_over_is, gather_over_own}
 use Rattle.words.specs.Periods.{whole_period}
-
--- the first n letters of w and v are the same
-abbrev pub Agree : (ℕ → ℕ) → (ℕ → ℕ) → ℕ → Type 0
-Agree w v n = (i : ℕ) → i < n → w i ≡ v i
 
 pub agree_back : {w v : ℕ → ℕ} {n : ℕ} → Agree w v n → Agree v w n
 agree_back f i h = sym (f i h)
