@@ -24,8 +24,15 @@ fn assert_answers(folder: &Folder, arguments: &[&str], line: &str, answer: &str)
     assert_eq!(output.status.code(), Some(0), "{line}");
 }
 
-/// The files among the sources: their list, and the stand-ins for steps.
-const SOURCES: [&str; 3] = ["crates.txt", "crates/draft/run", "crates/drive/lib"];
+/// The folders of the sources, their list, and the stand-ins for steps among them.
+const SOURCES: [&str; 6] = [
+    "crates",
+    "crates.txt",
+    "rust",
+    "console",
+    "crates/draft/run",
+    "crates/drive/lib",
+];
 
 /// What cargo and rt write to beside the sources.
 const MADE: [&str; 3] = ["rust/target", "console/target", "crates/drive/out"];
