@@ -1,33 +1,21 @@
 // Back: the draft as it was at a mark. The kept picks are fed again, in place.
-ghost use Rattle.std.specs.Prelude.{◌≡◌, map, ◌≤◌, length, replicate, take};
-ghost use Rattle.std.proofs.lemmas.List.Edits.{sets};
+ghost use Rattle.std.specs.Prelude.{◌≡◌, map, ◌++◌, ◌-◌, ◌≤◌, length, replicate, take};
 ghost use Rattle.words.specs.Definitions.{most_picks, most_sections};
-ghost use Rattle.cells.specs.Lanes.{by_centre, by_place};
 ghost use Rattle.models.specs.Core.{arrays_in};
 ghost use Rattle.promises.specs.Lifts.{lifted_by};
 ghost use Rattle.promises.specs.State.{draft_in};
 ghost use Rattle.promises.specs.Marks.{keep_to};
 ghost use Rattle.promises.specs.State.{append_all};
 ghost use Rattle.promises.specs.Promises.{BackPromise};
-ghost use Rattle.promises.specs.Lent.{marked_as};
+ghost use Rattle.promises.specs.Lent.{answered_as, done, numbers_after};
 
 use crate::lift::lift_in;
 use crate::mark::entry_of;
 use crate::start::clear;
-use cells::{
-    Centre, Centres, Letters, Lifts, Marks, Numbers, Place, Places, VISITS, at, letter_after,
-    smaller, store, store_byte, wide,
-};
+use cells::{Centre, Centres, Letters, Lifts, Marks, Numbers, Places, VISITS};
 use engine::append::append;
-use promises::{MarkAnswer, NO_MARK};
+use promises::Refusal;
 use refusals::letter_refusal;
-
-// The answer, and the numbers of the state.
-#[derive(Clone, Copy)]
-pub struct Return {
-    pub answer: MarkAnswer,
-    pub numbers: Numbers,
-}
 
 // The entry of a mark, 0 where it is above top.
 fn keep_to(top: u16, entry: u16) -> u16
@@ -40,25 +28,17 @@ fn keep_to(top: u16, entry: u16) -> u16
 fn drop_longer(marks: &mut [u16], top: u16)
     ensures { marks.new ≡ map (keep_to top) marks.old }
 {
-    let mut j = 0usize;
-    while j < marks.len() {
-        let entry = at(marks, j);
-        store(marks, j, keep_to(top, entry));
-        j = j + 1;
+    for entry in marks {
+        *entry = keep_to(top, *entry);
     }
 }
 
 // The first `kept` letters, and 0 behind them.
-#[tactic(auto, using(promises::proofs::BackLaws::cut_more, promises::proofs::BackLaws::cut_all))]
 fn cut(letters: &mut [u8], kept: usize)
     requires { kept ≤ length letters.old }
-    ensures { letters.new ≡ sets (replicate (length letters.old) 0) 0 (take kept letters.old) }
+    ensures { letters.new ≡ take kept letters.old ++ replicate (length letters.old - kept) 0 }
 {
-    let mut j = kept;
-    while j < letters.len() {
-        store_byte(letters, j, 0);
-        j = j + 1;
-    }
+    letters[kept..].fill(0);
 }
 
 // Feeds the first `kept` letters to the arrays of no letter. Nobody asks for the visits.
@@ -74,8 +54,8 @@ fn feed_again(
 ) -> Numbers
     requires { (k ≤ most_sections) × (kept ≤ most_picks) × (kept ≤ length letters.now) }
     ensures { (result.n ≡ kept) × (result.k ≡ k)
-        × (arrays_in codes.new (by_centre centres.new) (by_place places.new) result.longest.0
-        ≡ append_all k 0 (arrays_in codes.old (by_centre centres.old) (by_place places.old) 1)
+        × (arrays_in codes.new centres.new places.new result.longest.0
+        ≡ append_all k 0 (arrays_in codes.old centres.old places.old 1)
         (lifted_by lifts.now (take kept letters.now))) }
 {
     let mut visits = [0u16; VISITS];
@@ -84,8 +64,8 @@ fn feed_again(
         k,
         longest: Centre(1),
     };
-    while held.n < kept {
-        let code = lift_in(lifts, letter_after(letters, Place(held.n)));
+    for &letter in &letters[..kept] {
+        let code = lift_in(lifts, letter);
         let a = append(codes, centres, places, &mut visits, held, code);
         let longest = a.longest;
         held = Numbers {
@@ -107,33 +87,21 @@ pub fn back(
     places: &mut Places,
     held: Numbers,
     name: u8,
-) -> Return
+) -> Result<Numbers, Refusal>
     ensures { BackPromise
-        (draft_in held letters.old codes.old lifts.now marks.old (by_centre centres.old) (by_place places.old)) name
-        (marked_as result.answer
-        (draft_in result.numbers letters.new codes.new lifts.now marks.new (by_centre centres.new) (by_place places.new))) }
+        (draft_in held letters.old codes.old lifts.now marks.old centres.old places.old) name
+        (answered_as (done result)
+        (draft_in (numbers_after held result) letters.new codes.new lifts.now marks.new centres.new places.new)) }
 {
-    let number = letter_refusal(held, name);
-    if 0 < number {
-        return Return {
-            answer: MarkAnswer::Refused(number),
-            numbers: held,
-        };
-    }
+    letter_refusal(held, name)?;
     let entry = entry_of(marks, name);
     if entry == 0 {
-        return Return {
-            answer: MarkAnswer::Refused(NO_MARK),
-            numbers: held,
-        };
+        return Err(Refusal::NoMark);
     }
-    let kept = smaller(wide(entry) - 1, held.n);
+    let kept = (usize::from(entry) - 1).min(held.n);
     drop_longer(marks, entry);
     cut(letters, kept);
     clear(codes, centres, places);
     let numbers = feed_again(letters, codes, lifts, centres, places, held.k, kept);
-    Return {
-        answer: MarkAnswer::Done,
-        numbers,
-    }
+    Ok(numbers)
 }

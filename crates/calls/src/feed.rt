@@ -1,19 +1,18 @@
 // Feed: a pick and a visit list.
 ghost use Rattle.std.specs.Prelude.{◌≡◌, ◌+◌, ◌<◌};
 ghost use Rattle.words.specs.Definitions.{most_picks};
-ghost use Rattle.cells.specs.Lanes.{by_centre, by_place};
 ghost use Rattle.promises.specs.State.{draft_in};
 ghost use Rattle.promises.specs.Promises.{mask_byte};
 ghost use Rattle.promises.specs.Lent.{FeedsOn};
 
 use crate::lift::lift_in;
 use crate::mask::mask_byte;
-use cells::{Centres, Letters, Lifts, Numbers, Place, Places, store_letter};
+use cells::{Centres, Letters, Lifts, Numbers, Place, Places, put};
 use engine::append::{Appended, append};
 use promises::FeedAnswer;
 use refusals::feed_refusal;
 
-// The answer, and the numbers of the state.
+// The answer, and the numbers of the state (document 01, "the state in a struct beside it").
 #[derive(Clone, Copy)]
 pub struct Step {
     pub answer: FeedAnswer,
@@ -38,7 +37,7 @@ fn taken(a: Appended, held: Numbers) -> Step
 }
 
 // The letter is stored as it is; the engine takes the pick's lift in force.
-#[tactic(auto, using(promises::proofs::RefusalLaws::feed_fits, promises::proofs::WritingLaws::feed_refused))]
+#[tactic(auto, using(promises::proofs::RefusalLaws::feed_fits))]
 pub fn feed(
     letters: &mut Letters,
     codes: &mut Letters,
@@ -50,20 +49,19 @@ pub fn feed(
     pick: u8,
 ) -> Step
     ensures { FeedsOn
-        (λ marks. draft_in held letters.old codes.old lifts.now marks (by_centre centres.old) (by_place places.old))
+        (λ marks. draft_in held letters.old codes.old lifts.now marks centres.old places.old)
         pick visits.old result.answer
-        (λ marks. draft_in result.numbers letters.new codes.new lifts.now marks (by_centre centres.new) (by_place places.new))
+        (λ marks. draft_in result.numbers letters.new codes.new lifts.now marks centres.new places.new)
         visits.new }
 {
-    let number = feed_refusal(held, pick, visits.len());
-    if 0 < number {
+    if let Err(refusal) = feed_refusal(held, pick, visits.len()) {
         return Step {
-            answer: FeedAnswer::Refused(number),
+            answer: FeedAnswer::Refused(refusal.number()),
             numbers: held,
         };
     }
     let code = lift_in(lifts, pick);
     let a = append(codes, centres, places, visits, held, code);
-    store_letter(letters, Place(held.n), pick);
+    put(letters, Place(held.n), pick);
     taken(a, held)
 }

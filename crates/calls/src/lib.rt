@@ -1,5 +1,6 @@
 // The calls, each on what it is lent of a state: start and back on all of it, feed on all but the marks, load on the table of lifts,
-// mark on the marks, the others on the parts that they read; show is given no state.
+// mark on the marks, the others on the parts that they read; show is given no state. The parts are parameters, in place of a struct of all:
+// that would ask more of a caller, who would lend a feed the marks too.
 #![tactic(auto)]
 
 pub mod back;

@@ -1,61 +1,43 @@
 // Mark: a name for the draft's length.
-ghost use Rattle.std.specs.Prelude.{◌≡◌, [], ◌∷◌, ◌-◌, ◌≤◌, get_or};
+ghost use Rattle.std.specs.Prelude.{◌≡◌, ◌-◌, nat_lt, get_or};
+ghost use Rattle.std.specs.List.{count_by};
 ghost use Rattle.words.specs.Definitions.{first_letter};
-ghost use Rattle.promises.specs.Marks.{how_many, room_for, marks_in};
+ghost use Rattle.promises.specs.Marks.{room_for, marks_in};
 ghost use Rattle.promises.specs.Lent.{MarksOn};
 
-use cells::{MARKS, Marks, Numbers, at, letter_index, narrow, store};
-use promises::{FIFTH_NAME, MarkAnswer};
+use cells::{MARKS, Marks, Numbers, at, letter_index, store};
+use promises::Refusal;
 use refusals::letter_refusal;
 
-// The entry of a name: 0 where it is no mark.
+// The entry of a name, as the state has it for C: 0 where it is no mark.
 pub fn entry_of(marks: &Marks, name: u8) -> u16
     ensures { result ≡ get_or marks.now (name - first_letter) 0 }
 {
-    at(marks, letter_index(name))
-}
-
-// 1 for the entry of a mark, else 0.
-fn counted(entry: u16) -> usize
-    ensures { (result ≡ how_many (marks_in (entry ∷ []))) × (result ≤ 1) }
-{
-    if 0 < entry { 1 } else { 0 }
+    at(marks, letter_index(name), 0)
 }
 
 // How many marks there are.
 fn how_many(marks: &[u16]) -> usize
-    ensures { result ≡ how_many (marks_in marks.now) }
+    ensures { result ≡ count_by (λ x. nat_lt 0 x) marks.now }
 {
-    let mut count = 0usize;
-    let mut j = 0usize;
-    while j < marks.len() {
-        count = count + counted(at(marks, j));
-        j = j + 1;
-    }
-    count
+    marks.iter().filter(|&&entry| 0 < entry).count()
 }
 
 // Whether the name is a mark already, or not a fifth.
 fn room_for(marks: &Marks, name: u8) -> bool
     ensures { result ≡ room_for (marks_in marks.now) name }
 {
-    if 0 < entry_of(marks, name) {
-        return true;
-    }
-    how_many(marks) < MARKS
+    0 < entry_of(marks, name) || how_many(marks) < MARKS
 }
 
 #[tactic(auto, using(promises::proofs::RefusalLaws::letter_passed))]
-pub fn mark(marks: &mut Marks, held: Numbers, name: u8) -> MarkAnswer
+pub fn mark(marks: &mut Marks, held: Numbers, name: u8) -> Result<(), Refusal>
     ensures { MarksOn held marks.old name result marks.new }
 {
-    let number = letter_refusal(held, name);
-    if 0 < number {
-        return MarkAnswer::Refused(number);
-    }
+    letter_refusal(held, name)?;
     if room_for(marks, name) {
-        store(marks, letter_index(name), narrow(held.n + 1));
-        return MarkAnswer::Done;
+        store(marks, letter_index(name), (held.n + 1) as u16);
+        return Ok(());
     }
-    MarkAnswer::Refused(FIFTH_NAME)
+    Err(Refusal::FifthName)
 }

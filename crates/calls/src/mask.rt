@@ -1,12 +1,12 @@
 // The mask of a prefix.
 ghost use Rattle.std.specs.Prelude.{◌≡◌, []};
-ghost use Rattle.promises.specs.Answers.{reply, mask_says};
+ghost use Rattle.promises.specs.Answers.{reply, number_says};
 ghost use Rattle.promises.specs.Book.{mask};
 ghost use Rattle.promises.specs.Promises.{mask_byte};
 ghost use Rattle.promises.specs.Lent.{ReadsOn};
 
-use cells::{ByPlace, Numbers, Place, at_place};
-use promises::MaskAnswer;
+use cells::{ByPlace, Numbers, Place, entry};
+use promises::Refusal;
 use refusals::mask_refusal;
 
 // The mask of a row word.
@@ -16,12 +16,9 @@ pub fn mask_byte(row: u16) -> u8
     (row / 2 % 256) as u8
 }
 
-pub fn mask(rows: &ByPlace, held: Numbers, i: Place) -> MaskAnswer
-    ensures { ReadsOn held (λ d. d.rows ≡ rows.now) (mask i.0) (reply (mask_says result) []) }
+pub fn mask(rows: &ByPlace, held: Numbers, i: Place) -> Result<u8, Refusal>
+    ensures { ReadsOn held (λ d. d.places.rows ≡ rows.now) (mask i.0) (reply (number_says result) []) }
 {
-    let number = mask_refusal(held, i);
-    if 0 < number {
-        return MaskAnswer::Refused(number);
-    }
-    MaskAnswer::Mask(mask_byte(at_place(rows, i)))
+    mask_refusal(held, i)?;
+    Ok(mask_byte(entry(rows, i, 0)))
 }

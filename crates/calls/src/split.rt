@@ -1,13 +1,14 @@
 // Split: a prefix and k, giving the ends of the split named, and its turn count.
 ghost use Rattle.std.specs.Prelude.{◌≡◌};
-ghost use Rattle.promises.specs.Answers.{reply, split_says};
+ghost use Rattle.promises.specs.Answers.{reply, number_says};
 ghost use Rattle.promises.specs.Book.{split};
 ghost use Rattle.promises.specs.Lent.{ReadsOn};
 
 use cells::{ByCentre, ByPlace, Numbers, Place};
-use promises::{NO_SPLIT, SplitAnswer};
+use iterator::reading::Radii;
+use promises::Refusal;
 use refusals::split_refusal;
-use splitting::{split_from, turn_count};
+use splitting::{Search, turn_count};
 
 #[tactic(auto, using(promises::proofs::RefusalLaws::split_fits))]
 pub fn split(
@@ -17,18 +18,16 @@ pub fn split(
     i: Place,
     k: u8,
     ends: &mut [u16],
-) -> SplitAnswer
-    ensures { ReadsOn held (λ d. (d.rows ≡ rows.now) × (d.radius ≡ radius.now)) (split i.0 k ends.old)
-        (reply (split_says result) ends.new) }
+) -> Result<usize, Refusal>
+    ensures { ReadsOn held (λ d. (d.places.rows ≡ rows.now) × (d.centres.radius ≡ radius.now)) (split i.0 k ends.old)
+        (reply (number_says result) ends.new) }
 {
-    let number = split_refusal(held, i, k, ends.len());
-    if 0 < number {
-        return SplitAnswer::Refused(number);
+    split_refusal(held, i, k, ends.len())?;
+    let radii = Radii { radius, held };
+    let search = Search { rows, radii };
+    if search.split_into(k, i, ends) {
+        let count = usize::from(k);
+        return Ok(turn_count(&ends[..count]));
     }
-    if split_from(rows, radius, held, i, k, ends) {
-        let count = k as usize;
-        let turns = turn_count(&ends[..count]);
-        return SplitAnswer::Split(turns);
-    }
-    SplitAnswer::Refused(NO_SPLIT)
+    Err(Refusal::NoSplit)
 }

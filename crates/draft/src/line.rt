@@ -1,5 +1,6 @@
 // The lines that are printed: each is built first and then written as one.
-ghost use Rattle.std.specs.Prelude.{◌≡◌, ◌+◌, ◌≤◌, length, take};
+ghost use Rattle.std.specs.Prelude.{◌≡◌, ◌+◌, ◌≤◌, length, take, OnOk};
+ghost use Rattle.std.specs.Io.KnownBytes.{Appends};
 ghost use Rattle.text.specs.Writes.{Writes};
 ghost use Rattle.draft.specs.Lines.{header_line, field, pick_line, refusal_line};
 ghost use Rattle.draft.specs.Putting.{most_field, room, IsPrefixLen};
@@ -10,7 +11,7 @@ use text::bytes::{write_byte, write_bytes};
 use text::decimal::write_decimal;
 use text::{COMMA, LINE_END};
 
-// Room for a line: four numbers of 64 bits and a byte after each.
+// Room for a line: four numbers of 64 bits and a byte after each. An array, since there is no heap.
 pub const ROOM: usize = 84;
 
 // A number in decimal and the byte that closes its field, and the place after them.
@@ -30,7 +31,7 @@ pub fn pick_line(picks: usize, mask: u8, visits: usize, longest: usize, line: &m
     ensures line_after { take result line.new ≡ pick_line picks mask visits longest }
 {
     let second = write_field(picks, COMMA, line, 0);
-    let third = write_field(mask as usize, COMMA, line, second);
+    let third = write_field(usize::from(mask), COMMA, line, second);
     let fourth = write_field(visits, COMMA, line, third);
     write_field(longest, LINE_END, line, fourth)
 }
@@ -42,7 +43,7 @@ pub fn refusal_line(number: u8, place: usize, line: &mut [u8]) -> usize
     ensures line_after { take result line.new ≡ refusal_line number place }
 {
     let first = write_bytes(b"refused,", line, 0);
-    let second = write_field(number as usize, COMMA, line, first);
+    let second = write_field(usize::from(number), COMMA, line, first);
     write_field(place, LINE_END, line, second)
 }
 
@@ -56,14 +57,18 @@ fn header_line(line: &mut [u8]) -> usize
 }
 
 // Writes the header.
-pub fn print_header(output: &mut impl Write) -> io::Result<()> {
+pub fn print_header<W: Write>(output: &mut W) -> io::Result<()>
+    ensures { OnOk result (Appends (W.contents output.old) (W.contents output.new) header_line) }
+{
     let mut line = [0u8; ROOM];
     let count = header_line(&mut line);
     output.write_all(&line[..count])
 }
 
 // Writes the line of a refusal.
-pub fn print_refusal(number: u8, place: usize, output: &mut impl Write) -> io::Result<()> {
+pub fn print_refusal<W: Write>(number: u8, place: usize, output: &mut W) -> io::Result<()>
+    ensures { OnOk result (Appends (W.contents output.old) (W.contents output.new) (refusal_line number place)) }
+{
     let mut line = [0u8; ROOM];
     let count = refusal_line(number, place, &mut line);
     output.write_all(&line[..count])

@@ -1,6 +1,6 @@
 pub mod Parts
-pub mod Requests
 pub mod Calling
+pub mod Requests
 pub mod Advancing
 pub mod Onward
 pub mod Session

@@ -1,42 +1,37 @@
--- How `drive` goes through a script: from call to call, and at its end.
-use Rattle.std.specs.Prelude.{◌≡◌, refl, Bool, true, false, List, [], ◌∷◌, ◌++◌, ℕ, suc, ◌+◌, ◌-◌, ◌*◌, ◌/◌, ◌≤◌, ◌<◌, length, take, drop}
-use Rattle.std.proofs.Common.{sym, ◌∙◌, true≢false, append_assoc, arith, zero-add, add-zero, length-drop, length-append, take-append-drop, drop-drop, le-leb}
-use Rattle.std.proofs.lemmas.Bool.{false≢true}
+-- How `follow` goes through a script: from call to call, and at its end.
+use Rattle.std.specs.Prelude.{◌≡◌, refl, List, [], ◌∷◌, ◌++◌, ℕ, zero, suc, ◌+◌, ◌-◌, ◌*◌, ◌/◌, ◌≤◌, min, length, take, drop, Some, None}
+use Rattle.std.proofs.Common.{sym, append_assoc, arith, zero-add, add-zero, length-drop, length-append, take-append-drop, drop-drop}
 use Rattle.std.proofs.Math.Option.{Option, some, none}
 use Rattle.std.proofs.Math.Decide.{dec_lt}
-use Rattle.promises.specs.Answers.{filled}
+use Rattle.promises.specs.Answers.{Said, gave, refused, refused_at, filled}
 use Rattle.promises.specs.declared.Draft.{Draft}
 use Rattle.promises.specs.Book.{Call}
-use Rattle.promises.specs.Runs.{Made, call_of, Meets, leaves, Run, last}
+use Rattle.promises.specs.Runs.{Made, call_of, reply_of, Meets, leaves, Run, last}
 use Rattle.drive.specs.Script.{Buffers, buffers, call_size, next_call, next_sizes, past, or_end, asked}
-use Rattle.drive.specs.Drives.{answer_size, answers_of, entries_of, bytes_of, joined, Drives}
-use Rattle.drive.proofs.Parts.{lends_rest, lends_front, lends_length}
-use Rattle.drive.specs.Requests.{called}
-use Rattle.drive.proofs.Requests.{has_room}
-use Rattle.drive.specs.Advancing.{cursor, onward, script_at, left_at, called_at, Goes, Halts, Advances, halts, goes}
+use Rattle.drive.specs.Drives.{answer_size, encoded, answers_of, entries_of, bytes_of, joined, Drives}
+use Rattle.drive.specs.Parts.{LendsAt}
+use Rattle.drive.specs.Advancing.{left_at, Inside, Goes, Advances, halts, goes, AdvancesAt}
 use Rattle.drive.specs.declared.lending.Sizes.{Sizes}
-use Rattle.drive.specs.declared.Cursor.{Cursor}
+use Rattle.drive.proofs.Requests.{script_ends}
+use Rattle.drive.proofs.Parts.{lends_part, lends_rest, lends_front, lends_length}
 
 -- The calls that a script asks for, one more and no more
 
-asked_more : (script : List ℕ) (left : Buffers) (room : ℕ) (c : Call) → called script left room ≡ some c
+asked_more : (script : List ℕ) (left : Buffers) (room : ℕ) (c : Call) → answer_size ≤ room → next_call script left ≡ some c
     → asked (room / answer_size) script left ≡ c ∷ asked ((room - answer_size) / answer_size) (drop call_size script) (past (next_sizes script) left)
 unfolding asked or_end
-asked_more script left room c e =
-    let l = has_room script left room c e in
-    let n : next_call script left ≡ some c = simp (le-leb _ _ l) at e in
+asked_more script left room c l n =
     let r : room / answer_size ≡ suc ((room - answer_size) / answer_size) = omega arith in
     rw (r, n)
 
-asked_done : (script : List ℕ) (left : Buffers) (room : ℕ) → called script left room ≡ none → asked (room / answer_size) script left ≡ []
+asked_done : (room : ℕ) (script : List ℕ) (left : Buffers) → next_call script left ≡ none → asked room script left ≡ []
 unfolding asked or_end
-asked_done script left room e = elim (dec_lt room answer_size) [
-  | yes l ↦ let r : room / answer_size ≡ 0 = omega arith in rw r
-  | no l ↦
-      let n : next_call script left ≡ none = simp (le-leb answer_size room (omega arith)) at e in
-      let r : room / answer_size ≡ suc ((room - answer_size) / answer_size) = omega arith in
-      rw (r, n)
-]
+asked_done zero script left n = refl
+asked_done (suc room) script left n = rw n
+
+asked_none : (room : ℕ) → room / answer_size ≡ 0 → (script : List ℕ) (left : Buffers) → asked (room / answer_size) script left ≡ []
+unfolding asked
+asked_none room e script left = rw e
 
 -- One call more before the others
 
@@ -46,15 +41,15 @@ filled_more kept front list k s =
     rw (append_assoc kept front, length-append kept front, s, drop-drop (length front) k list)
 
 drives_more : {d e : Draft} (script : List ℕ) (left : Buffers) (answers : List ℕ) {count : ℕ} {ls bs ans : List ℕ} (c : Call) (m : Made)
-    → called script left (length answers) ≡ some c → Meets d m → call_of m ≡ c
+    → next_call script left ≡ some c → answer_size ≤ length answers → Meets d m → call_of m ≡ c
     → length (entries_of m) ≡ (next_sizes script).entries → length (bytes_of m) ≡ (next_sizes script).output → length (answers_of m) ≡ answer_size
     → Drives (leaves d m) (drop call_size script) (past (next_sizes script) left) (drop answer_size answers) count e ls bs ans
     → Drives d script left answers (1 + count) e (entries_of m ++ ls) (bytes_of m ++ bs) (answers_of m ++ ans)
 unfolding Run last joined
-drives_more script left answers c m o p q x y z h = record {
+drives_more script left answers c m o l p q x y z h = record {
   made = m ∷ h.made;
   run = (p, h.run);
-  asks = rw (q, h.asks, length-drop answer_size answers) (sym (asked_more script left (length answers) c o));
+  asks = rw (q, h.asks, length-drop answer_size answers) (sym (asked_more script left (length answers) c l o));
   counts = omega (arith, h.counts);
   state = h.state;
   entries = rw h.entries (filled_more (entries_of m) (joined entries_of h.made) left.lists (next_sizes script).entries x);
@@ -62,13 +57,13 @@ drives_more script left answers c m o p q x y z h = record {
   told = rw h.told (filled_more (answers_of m) (joined answers_of h.made) answers answer_size z);
 }
 
-drives_none : (d : Draft) (script : List ℕ) (left : Buffers) (answers : List ℕ) → called script left (length answers) ≡ none
+drives_none : (d : Draft) (script : List ℕ) (left : Buffers) (answers : List ℕ) → asked (length answers / answer_size) script left ≡ []
     → Drives d script left answers 0 d left.lists left.bytes answers
 unfolding Run last joined
 drives_none d script left answers o = record {
   made = [];
   run = tt;
-  asks = sym (asked_done script left (length answers) o);
+  asks = sym o;
   counts = refl;
   state = refl;
   entries = refl;
@@ -76,127 +71,123 @@ drives_none d script left answers o = record {
   told = refl;
 }
 
+encoded_size : (said : Said) → length (encoded said) ≡ answer_size
+encoded_size (gave values) = refl
+encoded_size (refused number) = refl
+encoded_size (refused_at number place) = refl
+
 -- The loop
 
 -- whoever drives the rest of the script from here has driven the whole
-abbrev pub Onward : (d₀ : Draft) (script : List ℕ) (s₀ : Buffers) (answers₀ : List ℕ) (at : Cursor) (d : Draft) (s : Buffers) (answers : List ℕ) → Type 0
-Onward d₀ script s₀ answers₀ at d s answers =
+abbrev pub Onward : (d₀ : Draft) (script : List ℕ) (s₀ : Buffers) (answers₀ : List ℕ) (made : ℕ) (lent : Sizes) (d : Draft) (s : Buffers) (answers : List ℕ) → Type 0
+Onward d₀ script s₀ answers₀ made lent d s answers =
     (count : ℕ) (e : Draft) (ls bs ans : List ℕ)
-    → Drives d (script_at script at) (left_at s at) (drop (answer_size * at.made) answers) count e ls bs ans
-    → Drives d₀ script s₀ answers₀ (at.made + count) e
-    (take at.listed s.lists ++ ls) (take at.written s.bytes ++ bs) (take (answer_size * at.made) answers ++ ans)
+    → Drives d (drop (call_size * made) script) (left_at s lent) (drop (answer_size * made) answers) count e ls bs ans
+    → Drives d₀ script s₀ answers₀ (made + count) e
+    (take lent.entries s.lists ++ ls) (take lent.output s.bytes ++ bs) (take (answer_size * made) answers ++ ans)
 
--- what holds whenever the loop is at its test
-pub record Inside (d₀ : Draft) (script : List ℕ) (s₀ : Buffers) (answers₀ : List ℕ) (at : Cursor) (d : Draft) (s : Buffers) (answers : List ℕ) : Type 0 where
-  pub entries : length s.lists ≡ length s₀.lists
-  pub output : length s.bytes ≡ length s₀.bytes
-  pub room : length answers ≡ length answers₀
-  pub listed : at.listed ≤ length s.lists
-  pub written : at.written ≤ length s.bytes
-  pub read : at.read ≤ length s.input
-  pub told : answer_size * at.made ≤ length answers
-  pub onward : at.on ≡ true → Onward d₀ script s₀ answers₀ at d s answers
-  pub done : at.on ≡ false → Drives d₀ script s₀ answers₀ at.made d s.lists s.bytes answers
+-- what holds before each call
+pub record Follows (d₀ : Draft) (script : List ℕ) (s₀ : Buffers) (answers₀ : List ℕ) (made : ℕ) (lent : Sizes) (d : Draft) (s : Buffers) (answers : List ℕ) : Type 0 where
+  pub inside : Inside s lent
+  pub onward : Onward d₀ script s₀ answers₀ made lent d s answers
 
-pub inside_first : (d : Draft) (script : List ℕ) (s : Buffers) (answers : List ℕ) → Inside d script s answers (cursor true 0 0 0 0) d s answers
-inside_first d script s answers = record {
-  entries = refl;
-  output = refl;
-  room = refl;
-  listed = omega arith;
-  written = omega arith;
-  read = omega arith;
-  told = omega arith;
-  onward = λ _ count e ls bs ans h. rw (zero-add count) h;
-  done = λ z. absurd (true≢false z);
+pub follows_first : (d : Draft) (script : List ℕ) (s : Buffers) (answers : List ℕ)
+    → Follows d script s answers 0 (record { entries = 0; output = 0; input = 0 }) d s answers
+follows_first d script s answers = record {
+  inside = record { entries = omega arith; output = omega arith; input = omega arith };
+  onward = λ count e ls bs ans h. rw (zero-add count) h;
 }
 
--- what was lent, with what calls left of it
-abbrev pub left_by : Buffers → (lists bytes : List ℕ) → Buffers
-left_by s lists bytes = buffers lists bytes s.input
+module _ {d₀ d : Draft} {script : List ℕ} {s₀ s : Buffers} {answers₀ answers : List ℕ} {made : ℕ} {lent : Sizes}
+    (h : Follows d₀ script s₀ answers₀ made lent d s answers) where
+  -- where no call is left, the script has been driven
+  drives_all : asked (length (drop (answer_size * made) answers) / answer_size) (drop (call_size * made) script) (left_at s lent) ≡ []
+      → Drives d₀ script s₀ answers₀ made d s.lists s.bytes answers
+  drives_all o = rw (
+    add-zero made,
+    take-append-drop lent.entries s.lists,
+    take-append-drop lent.output s.bytes,
+    take-append-drop (answer_size * made) answers,
+  ) at (h.onward 0 d _ _ (drop (answer_size * made) answers)
+      (drives_none d (drop (call_size * made) script) (left_at s lent) (drop (answer_size * made) answers) o))
 
-module _ {d₀ d e : Draft} {script : List ℕ} {s₀ s : Buffers} {answers₀ answers lists' bytes' answers' : List ℕ} {at r : Cursor}
-    (h : Inside d₀ script s₀ answers₀ at d s answers) (on : at.on ≡ true) where
-  -- where there is no call, the script has been driven
-  inside_halts : Halts d s answers at r e lists' bytes' answers' → called_at script s answers at ≡ none
-      → Inside d₀ script s₀ answers₀ r e (left_by s lists' bytes') answers'
-  inside_halts f o =
-      let rest = drives_none d (script_at script at) (left_at s at) (drop (answer_size * at.made) answers)
-      (rw (length-drop (answer_size * at.made) answers) o) in
-      let whole = h.onward on 0 d _ _ (drop (answer_size * at.made) answers) rest in
-      rw (f.off, f.state, f.entries, f.output, f.told) (record {
-        entries = h.entries;
-        output = h.output;
-        room = h.room;
-        listed = h.listed;
-        written = h.written;
-        read = h.read;
-        told = h.told;
-        onward = λ z. absurd (false≢true z);
-        done = λ _. rw (
-          add-zero at.made,
-          take-append-drop at.listed s.lists,
-          take-append-drop at.written s.bytes,
-          take-append-drop (answer_size * at.made) answers,
-        ) at whole;
-      })
+  -- because no call comes next; k entries are lent for an answer
+  pub drives_halted : {d' : Draft} {answer' ls bs : List ℕ} (k : ℕ)
+      → AdvancesAt (drop (call_size * made) script) s (take k (drop (answer_size * made) answers)) lent None d d' ls bs answer'
+      → Drives d₀ script s₀ answers₀ made d' ls bs (take (answer_size * made) answers ++ (answer' ++ drop k (drop (answer_size * made) answers)))
+  drives_halted {d'} {answer'} {ls} {bs} k f = go (next_call (drop (call_size * made) script) (left_at s lent)) refl f
+    where
+      go : (o : Option Call) → next_call (drop (call_size * made) script) (left_at s lent) ≡ o
+          → Advances d (next_sizes (drop (call_size * made) script)) s (take k (drop (answer_size * made) answers)) lent d' ls bs answer' None o
+          → Drives d₀ script s₀ answers₀ made d' ls bs (take (answer_size * made) answers ++ (answer' ++ drop k (drop (answer_size * made) answers)))
+      go none n (halts f) = rw (
+        f.state,
+        f.entries,
+        f.output,
+        f.told,
+        take-append-drop k (drop (answer_size * made) answers),
+        take-append-drop (answer_size * made) answers,
+      ) (drives_all (asked_done _ _ _ n))
+      go (some c) n t = elim t [ ]
 
-  -- after a call, what is left is driven from the next one on
-  onward_goes : (c : Call) → Goes d c (next_sizes (script_at script at)) s answers at r e lists' bytes' answers' → called_at script s answers at ≡ some c
-      → Onward d₀ script s₀ answers₀ (onward at (next_sizes (script_at script at))) e (left_by s lists' bytes') answers'
-  onward_goes c f o count z ls bs ans g =
-      let w = next_sizes (script_at script at) in
-      let six : call_size * (at.made + 1) ≡ call_size * at.made + call_size = omega arith in
-      let four : answer_size * (at.made + 1) ≡ answer_size * at.made + answer_size = omega arith in
-      let lent = rw (six, four, lends_rest f.listed, lends_rest f.written, lends_rest f.told) at g in
+  -- or there are no bytes for one, or no room for its answer
+  pub drives_end : (calls : ℕ) → calls ≡ min (length script / call_size) (length answers / answer_size) → calls ≤ made → made ≤ calls
+      → Drives d₀ script s₀ answers₀ calls d s.lists s.bytes answers
+  drives_end calls e l m =
+      let q : calls ≡ made = omega arith in
+      rw q (drives_all (elim (dec_lt made (length answers / answer_size)) [
+        | yes r ↦ asked_done _ _ _ (script_ends (drop (call_size * made) script) (left_at s lent) (omega (arith, length-drop (call_size * made) script)))
+        | no r ↦ asked_none (length (drop (answer_size * made) answers)) (omega (arith, length-drop (answer_size * made) answers)) (drop (call_size * made) script) (left_at s lent)
+      ]))
+
+  -- after a call what is left is driven from the next one on
+  onward_goes : {c : Call} {d' : Draft} {end : Sizes} {answer' answers' ls bs : List ℕ}
+      → next_call (drop (call_size * made) script) (left_at s lent) ≡ some c
+      → (f : Goes d c (next_sizes (drop (call_size * made) script)) s lent end d' ls bs answer')
+      → LendsAt answers (answer_size * made) answer_size (answers_of f.made) answers'
+      → Onward d₀ script s₀ answers₀ (made + 1) end d' (buffers ls bs s.input) answers'
+  onward_goes {c} o f a count z ls bs ans g =
+      let w = next_sizes (drop (call_size * made) script) in
+      let six : call_size * (made + 1) ≡ call_size * made + call_size = omega arith in
+      let four : answer_size * (made + 1) ≡ answer_size * made + answer_size = omega arith in
+      let lent_on = rw (f.on, six, four, lends_rest f.listed, lends_rest f.written, lends_rest a) at g in
       let rest = rw (
-        ← (drop-drop call_size (call_size * at.made) script),
-        ← (drop-drop w.input at.read s.input),
+        ← (drop-drop call_size (call_size * made) script),
+        ← (drop-drop w.input lent.input s.input),
         ← f.left,
-      ) at lent in
-      let more = drives_more (script_at script at) (left_at s at) (drop (answer_size * at.made) answers) c f.made
-      (rw (length-drop (answer_size * at.made) answers) o) f.meets f.call f.listed.size f.written.size f.told.size rest in
-      let whole = h.onward on (1 + count) z (entries_of f.made ++ ls) (bytes_of f.made ++ bs) (answers_of f.made ++ ans) more in
-      let sum : at.made + 1 + count ≡ at.made + (1 + count) = omega arith in
+      ) at lent_on in
+      let more = drives_more (drop (call_size * made) script) (left_at s lent) (drop (answer_size * made) answers) c f.made o
+      (omega (arith, length-drop (answer_size * made) answers, a.fits)) f.meets f.call f.listed.size f.written.size a.size rest in
+      let whole = h.onward (1 + count) z (entries_of f.made ++ ls) (bytes_of f.made ++ bs) (answers_of f.made ++ ans) more in
+      let sum : made + 1 + count ≡ made + (1 + count) = omega arith in
       rw (
+        f.on,
         four,
         sum,
         lends_front f.listed,
         lends_front f.written,
-        lends_front f.told,
-        append_assoc (take at.listed s.lists) (entries_of f.made) ls,
-        append_assoc (take at.written s.bytes) (bytes_of f.made) bs,
-        append_assoc (take (answer_size * at.made) answers) (answers_of f.made) ans,
+        lends_front a,
+        append_assoc (take lent.entries s.lists) (entries_of f.made) ls,
+        append_assoc (take lent.output s.bytes) (bytes_of f.made) bs,
+        append_assoc (take (answer_size * made) answers) (answers_of f.made) ans,
       ) whole
 
-  inside_goes : (c : Call) → Goes d c (next_sizes (script_at script at)) s answers at r e lists' bytes' answers' → called_at script s answers at ≡ some c
-      → Inside d₀ script s₀ answers₀ r e (left_by s lists' bytes') answers'
-  inside_goes c f o = rw f.on (record {
-    entries = lends_length f.listed ∙ h.entries;
-    output = lends_length f.written ∙ h.output;
-    room = lends_length f.told ∙ h.room;
-    listed = omega (arith, f.listed.fits, lends_length f.listed);
-    written = omega (arith, f.written.fits, lends_length f.written);
-    read = f.read;
-    told = omega (arith, f.told.fits, lends_length f.told);
-    onward = λ _. onward_goes c f o;
-    done = λ z. absurd (true≢false z);
-  })
-
-  pub inside_next : {o : Option Call} → Advances d (next_sizes (script_at script at)) s answers at r e lists' bytes' answers' o
-      → called_at script s answers at ≡ o → Inside d₀ script s₀ answers₀ r e (left_by s lists' bytes') answers'
-  inside_next (halts f) o = inside_halts f o
-  inside_next (goes {c} f) o = inside_goes c f o
-
--- at most so many calls are left, the last of them none
-abbrev pub ticket : Bool → ℕ
-ticket true = 1
-ticket false = 0
-
-abbrev pub calls_left : Cursor → (answers : List ℕ) → ℕ
-calls_left at answers = ticket at.on + (length answers - at.made)
-
-pub fewer_left : {o : Option Call} {d e : Draft} {z : Sizes} {s : Buffers} {answers lists' bytes' answers' : List ℕ} {at r : Cursor} → at.on ≡ true
-    → Advances d z s answers at r e lists' bytes' answers' o → calls_left r answers' < calls_left at answers
-fewer_left on (halts f) = rw (f.off, f.told, on) (omega arith)
-fewer_left on (goes {c} f) = rw (f.on, on) (omega (arith, f.told.fits, lends_length f.told))
+  pub follows_next : {d' : Draft} {end : Sizes} {answer' ls bs : List ℕ} (k : ℕ) → k ≡ answer_size → answer_size * made + answer_size ≤ length answers
+      → AdvancesAt (drop (call_size * made) script) s (take k (drop (answer_size * made) answers)) lent (Some end) d d' ls bs answer'
+      → Follows d₀ script s₀ answers₀ (made + 1) end d' (buffers ls bs s.input)
+      (take (answer_size * made) answers ++ (answer' ++ drop k (drop (answer_size * made) answers)))
+  follows_next {d'} {end} {answer'} {ls} {bs} k e l f = go (next_call (drop (call_size * made) script) (left_at s lent)) refl f
+    where
+      go : (o : Option Call) → next_call (drop (call_size * made) script) (left_at s lent) ≡ o
+          → Advances d (next_sizes (drop (call_size * made) script)) s (take k (drop (answer_size * made) answers)) lent d' ls bs answer' (Some end) o
+          → Follows d₀ script s₀ answers₀ (made + 1) end d' (buffers ls bs s.input)
+          (take (answer_size * made) answers ++ (answer' ++ drop k (drop (answer_size * made) answers)))
+      go none n t = elim t [ ]
+      go (some c) n (goes f) = record {
+        inside = rw f.on (record {
+          entries = omega (arith, f.listed.fits, lends_length f.listed);
+          output = omega (arith, f.written.fits, lends_length f.written);
+          input = f.read;
+        });
+        onward = onward_goes n f (rw e (lends_part (answer_size * made) l (rw f.told (encoded_size (reply_of f.made).said)) f.told refl));
+      }

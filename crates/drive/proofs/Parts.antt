@@ -1,29 +1,20 @@
 -- Parts of a list: what was passed, what is lent, and the rest: laws.
 use Rattle.std.specs.Prelude.{◌≡◌, List, ◌++◌, ℕ, ◌+◌, ◌-◌, ◌≤◌, length, take, drop}
-use Rattle.std.proofs.Common.{sym, ap, ◌∙◌, append-nil, append_assoc, arith, length-drop, length-append, drop_of_length-le, take_all, drop-drop, take_at, drop_at, length-take-le}
-use Rattle.std.proofs.lemmas.List.Edits.{sets, sets-eq}
-use Rattle.drive.specs.Parts.{Lends, LendsAt}
+use Rattle.std.proofs.Common.{sym, ap, ◌∙◌, append_assoc, arith, length-drop, length-append, take_all, drop-drop, take_at, drop_at, length-take-le}
+use Rattle.drive.specs.Parts.{LendsAt}
 
 -- all that comes after the first a
 pub part_whole : (list : List ℕ) (a : ℕ) → take (length list - a) (drop a list) ≡ drop a list
 part_whole list a = take_all (length list - a) (drop a list) (simp length-drop (omega arith))
 
--- all that came after the first a was lent, and part is how it came back
-pub part_back : (list part : List ℕ) (a : ℕ) → take a list ++ (part ++ drop (length list - a) (drop a list)) ≡ take a list ++ part
-part_back list part a = rw (drop_of_length-le (drop a list) {i = length list - a} (simp length-drop (omega arith)), append-nil part)
-
--- of what comes after the first a, the first k were lent
-pub lends_at : {list part : List ℕ} {a k : ℕ} {left after : List ℕ} → a ≤ length list → Lends (drop a list) k left part → after ≡ take a list ++ part
-    → LendsAt list a k left after
-lends_at {list} {part} {a} {k} {left} h l e = record {
-  fits = omega (arith, l.fits, length-drop a list);
-  size = l.size;
-  is = e ∙ rw (l.is, drop-drop k a list) (sym (append_assoc (take a list) left (drop (a + k) list)));
+-- the k after the first a were lent
+pub lends_part : {list part left after : List ℕ} (a : ℕ) {k : ℕ} → a + k ≤ length list → length part ≡ k → part ≡ left
+    → after ≡ take a list ++ (part ++ drop k (drop a list)) → LendsAt list a k left after
+lends_part {list} {part} {left} a {k} h s e f = record {
+  fits = h;
+  size = ap length (sym e) ∙ s;
+  is = rw (f, e, drop-drop k a list) (sym (append_assoc (take a list) left (drop (a + k) list)));
 }
-
--- stores one after another
-pub lends_sets : (list left after : List ℕ) (a k : ℕ) → a + k ≤ length list → length left ≡ k → after ≡ sets list a left → LendsAt list a k left after
-lends_sets list left after a k h s e = record { fits = h; size = s; is = e ∙ rw (← s) (sets-eq left list a (omega arith)) }
 
 module _ {list : List ℕ} {a k : ℕ} {left after : List ℕ} (l : LendsAt list a k left after) where
   front : length (take a list ++ left) ≡ a + k

@@ -3,8 +3,7 @@ use Rattle.std.proofs.Common.{◌≡◌, refl, sym, ap, ap₂, ◌∙◌, ℕ, L
 use Rattle.std.proofs.lemmas.List.{map-append, length-map}
 use Rattle.words.proofs.Cases.{clash}
 use Rattle.promises.specs.declared.Draft.{Draft}
-use Rattle.promises.specs.declared.Started.{Started}
-use Rattle.promises.specs.Answers.{Reply, filled}
+use Rattle.promises.specs.Answers.{Reply, Changed, filled}
 use Rattle.promises.specs.Book.{Book, Call, start, blank, write_all, book_of}
 use Rattle.promises.specs.State.{state_of_book}
 use Rattle.promises.specs.Replies.{replies}
@@ -32,7 +31,7 @@ session_runs d e (s ∷ ss) ms (again {ms = ys} h t) =
 
 -- the first call made is that start
 pub record Starts (K : ℕ) (made : List Made) : Type 0 where
-  pub r : Started
+  pub r : Changed
   pub others : List Made
   pub is : made ≡ started K r ∷ others
 

@@ -1,6 +1,7 @@
 -- What `drive` does: the contract that its declaration cites.
 use Rattle.std.specs.Prelude.{◌≡◌, List, [], ◌∷◌, ◌++◌, ℕ, ◌/◌, length, get_or}
-use Rattle.cells.specs.Lanes.{by_centre, by_place}
+use Rattle.cells.specs.declared.Centres.{Centres}
+use Rattle.cells.specs.declared.Places.{Places}
 use Rattle.cells.specs.declared.Numbers.{Numbers}
 use Rattle.promises.specs.declared.Draft.{Draft}
 use Rattle.promises.specs.Answers.{Said, gave, refused, refused_at, filled}
@@ -12,9 +13,9 @@ use Rattle.drive.specs.Script.{Buffers, fills_lists, fills_bytes, list_from, ask
 abbrev pub held_in : (numbers : List ℕ) → Numbers
 held_in numbers = record { n = get_or numbers 0 0; k = get_or numbers 1 0; longest = record { 0 = get_or numbers 2 0 } }
 
--- The state that the numbers, the letters, the codes, the lifts, the marks and the lanes are
-abbrev pub state_of : (numbers letters codes lifts marks : List ℕ) (centres places : List (List ℕ)) → Draft
-state_of numbers letters codes lifts marks centres places = draft_in (held_in numbers) letters codes lifts marks (by_centre centres) (by_place places)
+-- The state that the numbers, the letters, the codes, the lifts, the marks and the arrays by centre and by place are
+abbrev pub state_of : (numbers letters codes lifts marks : List ℕ) → Centres → Places → Draft
+state_of numbers letters codes lifts marks centres places = draft_in (held_in numbers) letters codes lifts marks centres places
 
 -- An answer in four numbers: 0 and the values given, 1 and the number under which it refuses, or 2, that number and its place; 0 where
 -- there is none

@@ -4,7 +4,9 @@ pub mod Drives
 pub mod Session
 -- for the calls, one at a time
 pub mod Parts
-pub mod Told
+pub mod Numbers
+pub mod Lending
+pub mod State
 pub mod Requests
 pub mod Calling
 pub mod Advancing

@@ -1,54 +1,80 @@
-// How much of the lent buffers a call is lent.
-ghost use Rattle.std.specs.Prelude.{◌≡◌, cond, eqb};
-ghost use Rattle.drive.specs.Script.{sizes_of, fits};
+// What the calls of a script are lent beside the state, and how much of it.
+ghost use Rattle.std.specs.Prelude.{◌≡◌, ℕ, cond};
+ghost use Rattle.drive.specs.Script.{sizes_of, sizes_for};
+ghost use Rattle.drive.specs.Numbers.{op_number, source_number};
+ghost use Rattle.drive.specs.Lending.{held_by, sizes_in, onward, within, reached};
 
-use crate::numbers::{OF_BYTES, OF_INPUT, OF_LISTS, OF_LISTS_AND_INPUT, is_call};
+use crate::numbers::{Op, Source};
 
-// How much of each buffer a call is lent.
-#[derive(Clone, Copy)]
+// The lists and bytes that calls fill, and the bytes that they read.
+#[derive(Drop)]
+pub struct Buffers<'a, 'b> {
+    pub lists: &'a mut [u16],
+    pub bytes: &'a mut [u8],
+    pub input: &'b [u8],
+}
+
+// How much of each.
+#[derive(Clone, Copy, Debug, Default, PartialEq, Eq)]
 pub struct Sizes {
     pub entries: usize,
     pub output: usize,
     pub input: usize,
 }
 
-// m where the source is this one, else 0.
-fn size(is: u8, source: u8, m: usize) -> usize
-    ensures { result ≡ cond (eqb is source) m 0 }
-{
-    if is == source { m } else { 0 }
-}
-
-// How much a call that asks for x and m is lent of each.
-pub fn sizes_of(source: u8, x: usize, m: usize) -> Sizes
-    ensures { result ≡ sizes_of source x m }
-{
-    if source == OF_LISTS_AND_INPUT {
-        return Sizes {
-            entries: m,
-            output: 0,
-            input: x,
-        };
-    }
-    Sizes {
-        entries: size(source, OF_LISTS, m),
-        output: size(source, OF_BYTES, m),
-        input: size(source, OF_INPUT, m),
+impl Buffers<'_, '_> {
+    // How much there is.
+    pub fn sizes(&self) -> Sizes
+        ensures { result ≡ sizes_in (held_by self.now) }
+    {
+        Sizes {
+            entries: self.lists.len(),
+            output: self.bytes.len(),
+            input: self.input.len(),
+        }
     }
 }
 
-// Whether a call has the number, and so much is left to lend.
-pub fn fits(op: u8, z: Sizes, lists: usize, bytes: usize, input: usize) -> bool
-    ensures { result ≡ fits op z lists bytes input }
+impl Source {
+    // How much a call that asks for m is lent.
+    fn sizes(self, m: usize) -> Sizes
+        ensures { (x : ℕ) → result ≡ sizes_of (source_number self) x m }
+    {
+        let none = Sizes::default();
+        match self {
+            Source::Nothing => none,
+            Source::Lists => Sizes { entries: m, ..none },
+            Source::Bytes => Sizes { output: m, ..none },
+            Source::Input => Sizes { input: m, ..none },
+        }
+    }
+}
+
+impl Op {
+    // The same of a call.
+    pub fn sizes(self, m: usize) -> Sizes
+        ensures { (x : ℕ) → result ≡ sizes_for (op_number self) x m }
+    {
+        self.source().sizes(m)
+    }
+}
+
+// Where so much more ends, if it is there.
+fn end(lent: usize, more: usize, there: usize) -> Option<usize>
+    ensures { result ≡ reached lent more there }
 {
-    if !is_call(op) {
-        return false;
+    lent.checked_add(more).filter(|end| *end <= there)
+}
+
+impl Sizes {
+    // Where so much more of each ends, if it is there.
+    pub fn past(self, more: Sizes, there: Sizes) -> Option<Sizes>
+        ensures { result ≡ cond (within (onward self more) there) (Some (onward self more)) None }
+    {
+        Some(Sizes {
+            entries: end(self.entries, more.entries, there.entries)?,
+            output: end(self.output, more.output, there.output)?,
+            input: end(self.input, more.input, there.input)?,
+        })
     }
-    if lists < z.entries {
-        return false;
-    }
-    if bytes < z.output {
-        return false;
-    }
-    z.input <= input
 }

@@ -1,19 +1,17 @@
 // A call that the script asks for.
-ghost use Rattle.std.specs.Prelude.{◌≡◌, ◌+◌, ◌-◌, ◌*◌, ◌≤◌, length, drop};
+ghost use Rattle.std.specs.Prelude.{◌≡◌, ◌+◌, ◌*◌, ◌≤◌, length};
 ghost use Rattle.drive.specs.Script.{call_size};
-ghost use Rattle.drive.specs.Requests.{Requests, ended, request_of};
+ghost use Rattle.drive.specs.Requests.{Requests};
 
-use crate::numbers::NO_CALL;
+use crate::numbers::Op;
 
-// The bytes of a call, and the numbers of an answer.
-const CALL_SIZE: usize = 6;
+// The bytes of a call.
+pub const CALL_SIZE: usize = 6;
 
-pub const ANSWER_SIZE: usize = 4;
-
-// The call's number, and its arguments.
+// The call, and its arguments.
 #[derive(Clone, Copy)]
 pub struct Request {
-    pub op: u8,
+    pub op: Op,
     pub b: u8,
     pub x: usize,
     pub m: usize,
@@ -23,44 +21,19 @@ pub struct Request {
 fn pair(low: u8, high: u8) -> usize
     ensures { result ≡ low + 256 * high }
 {
-    (low as usize) + 256 * (high as usize)
+    usize::from(u16::from_le_bytes([low, high]))
 }
 
-// No call.
-fn ended() -> Request
-    ensures { result ≡ ended }
-{
-    Request {
-        op: NO_CALL,
-        b: 0,
-        x: 0,
-        m: 0,
-    }
-}
-
-// The call of the first six bytes.
-fn request_of(script: &[u8]) -> Request
+// The call of the first six bytes, if a call has the number.
+pub fn request_of(script: &[u8]) -> Option<Request>
     requires { call_size ≤ length script.now }
-    ensures { result ≡ request_of script.now }
+    ensures { Requests script.now result }
 {
-    Request {
-        op: script[0],
+    let op = Op::try_from(script[0]).ok()?;
+    Some(Request {
+        op,
         b: script[1],
         x: pair(script[2], script[3]),
         m: pair(script[4], script[5]),
-    }
-}
-
-// The call after those made, where the script goes on and there is room for its answer.
-pub fn request_at(script: &[u8], room: usize, made: usize) -> Request
-    ensures { Requests (drop (6 * made) script.now) (room - 4 * made) result }
-{
-    if script.len() / CALL_SIZE <= made {
-        return ended();
-    }
-    if room / ANSWER_SIZE <= made {
-        return ended();
-    }
-    let read = CALL_SIZE * made;
-    request_of(&script[read..])
+    })
 }

@@ -2,53 +2,43 @@
 ghost use Rattle.std.specs.Prelude.{◌≤◌};
 ghost use Rattle.words.specs.Definitions.{most_sections};
 
-use crate::print::{front, number, refusal, text};
-use cells::{ALPHABET, Centre, PICKS, Place, VISITS};
-use promises::{
-    CentreAnswer, Draft, FeedAnswer, MaskAnswer, NextAnswer, RadiusAnswer, RecordAnswer,
-    SplitAnswer,
+use crate::print::{fed, front, number, said, text};
+use cells::{
+    ALPHABET, BY_CENTRE, BY_PLACE, Centre, Centres, Numbers, PICKS, Place, Places, VISITS,
 };
+use promises::Draft;
 use std::io;
 use std::io::Write;
 
 // What is stored before a start: no draft.
 pub fn stored() -> Draft {
     Draft {
-        n: 3000,
-        k: 264,
-        longest: Centre(9),
-        letters: [90u8; PICKS],
-        codes: [7u8; PICKS],
-        lifts: [7u8; ALPHABET],
-        marks: [7u16; ALPHABET],
-        radius: [7u16; 2 * PICKS + 2],
-        heads: [7u16; PICKS + 1],
-        lends: [7u16; 2 * PICKS + 2],
-        next: [7u16; 2 * PICKS + 2],
-        prev: [7u16; 2 * PICKS + 2],
-        rows: [7u16; PICKS + 1],
-        gathered: [7u16; PICKS + 1],
+        numbers: Numbers {
+            n: 3000,
+            k: 264,
+            longest: Centre(9),
+        },
+        letters: [90; PICKS],
+        codes: [7; PICKS],
+        lifts: [7; ALPHABET],
+        marks: [7; ALPHABET],
+        centres: Centres {
+            radius: [7; BY_CENTRE],
+            lends: [7; BY_CENTRE],
+            next: [7; BY_CENTRE],
+            prev: [7; BY_CENTRE],
+        },
+        places: Places {
+            heads: [7; BY_PLACE],
+            rows: [7; BY_PLACE],
+            gathered: [7; BY_PLACE],
+        },
     }
 }
 
 // A draft of no picks.
 pub fn started() -> Draft {
-    let s = board::start(stored(), 8);
-    let state = s.state;
-    state
-}
-
-// The answer to a feed, and the pick's visits.
-pub fn say_fed(answer: FeedAnswer, visits: &[u16], out: &mut impl Write) -> io::Result<()> {
-    match answer {
-        FeedAnswer::Taken(mask, count) => {
-            text(b" mask", out)?;
-            number(mask as usize, out)?;
-            text(b" visits", out)?;
-            front(visits, count, out)
-        }
-        FeedAnswer::Refused(x) => refusal(x, out),
-    }
+    board::start(stored(), 8).state
 }
 
 // Feeds one pick, and prints the picks so far and the answer.
@@ -56,52 +46,37 @@ pub fn one_more(draft: Draft, picks: &[u8], pick: u8, out: &mut impl Write) -> i
     let mut visits = [0u16; VISITS];
     let r = board::feed(draft, pick, &mut visits);
     text(picks, out)?;
-    let answer = r.answer;
-    say_fed(answer, &visits, out)?;
+    fed(r.answer, &visits, out)?;
     text(b"\n", out)?;
-    let state = r.state;
-    Ok(state)
+    Ok(r.state)
 }
 
 // Feeds the picks one after another.
-fn fed(picks: &[u8], out: &mut impl Write) -> io::Result<Draft> {
+fn draft_of(picks: &[u8], out: &mut impl Write) -> io::Result<Draft> {
     let mut draft = started();
-    let mut j = 0usize;
-    while j < picks.len() {
-        let end = j + 1;
-        draft = one_more(draft, &picks[..end], picks[j], out)?;
-        j = end;
+    for (j, &pick) in picks.iter().enumerate() {
+        draft = one_more(draft, &picks[..=j], pick, out)?;
     }
     Ok(draft)
 }
 
 // The mask of all picks.
 pub fn say_mask(draft: Draft, out: &mut impl Write) -> io::Result<()> {
-    let n = draft.n;
-    text(b"mask of prefix", out)?;
-    number(n, out)?;
-    let a = board::mask(draft, Place(n));
-    match a {
-        MaskAnswer::Mask(mask) => number(mask as usize, out)?,
-        MaskAnswer::Refused(x) => refusal(x, out)?,
-    }
+    let n = draft.numbers.n;
+    write!(out, "mask of prefix {n}")?;
+    said(board::mask(draft, Place(n)), out)?;
     text(b"\n", out)
 }
 
 // The split of all picks into k, with this ends list.
 fn say_split(draft: Draft, k: u8, ends: &mut [u16], out: &mut impl Write) -> io::Result<()> {
-    let n = draft.n;
-    text(b"split into", out)?;
-    number(k as usize, out)?;
-    let a = board::split(draft, Place(n), k, ends);
-    match a {
-        SplitAnswer::Split(turns) => {
-            text(b" turns", out)?;
-            number(turns, out)?;
-            text(b" ends", out)?;
+    write!(out, "split into {k}")?;
+    match board::split(draft, Place(draft.numbers.n), k, ends) {
+        Ok(turns) => {
+            write!(out, " turns {turns} ends")?;
             front(ends, ends.len(), out)?;
         }
-        SplitAnswer::Refused(x) => refusal(x, out)?,
+        Err(refusal) => write!(out, " {refusal}")?,
     }
     text(b"\n", out)
 }
@@ -110,106 +85,81 @@ fn say_split(draft: Draft, k: u8, ends: &mut [u16], out: &mut impl Write) -> io:
 fn split_into(draft: Draft, k: u8, out: &mut impl Write) -> io::Result<()>
     requires { k ≤ most_sections }
 {
-    let count = k as usize;
     let mut ends = [0u16; 8];
-    say_split(draft, k, &mut ends[..count], out)
+    say_split(draft, k, &mut ends[..usize::from(k)], out)
 }
 
 // Every k from 1 to 8.
 fn split_each(draft: Draft, out: &mut impl Write) -> io::Result<()> {
-    split_into(draft, 1, out)?;
-    split_into(draft, 2, out)?;
-    split_into(draft, 3, out)?;
-    split_into(draft, 4, out)?;
-    split_into(draft, 5, out)?;
-    split_into(draft, 6, out)?;
-    split_into(draft, 7, out)?;
-    split_into(draft, 8, out)
+    for k in 1..=8 {
+        split_into(draft, k, out)?;
+    }
+    Ok(())
 }
 
 fn say_longest(draft: Draft, out: &mut impl Write) -> io::Result<()> {
     text(b"longest ending at", out)?;
-    let a = board::longest(draft);
-    match a {
-        CentreAnswer::At(c) => number(c.0, out)?,
-        CentreAnswer::Refused(x) => refusal(x, out)?,
-    }
+    said(board::longest(draft).map(|c| c.0), out)?;
     text(b"\n", out)
 }
 
 fn say_next(draft: Draft, c: usize, out: &mut impl Write) -> io::Result<()> {
-    text(b"next after", out)?;
-    number(c, out)?;
-    let a = board::next(draft, Centre(c));
-    match a {
-        NextAnswer::Shorter(d, length, period) => {
-            number(d.0, out)?;
-            text(b" length", out)?;
-            number(length, out)?;
-            text(b" period", out)?;
-            number(period, out)?;
+    write!(out, "next after {c}")?;
+    match board::next(draft, Centre(c)) {
+        Ok(ending) => {
+            number(ending.centre.0, out)?;
+            write!(out, " length {} period {}", ending.length, ending.period)?;
         }
-        NextAnswer::Refused(x) => refusal(x, out)?,
+        Err(refusal) => write!(out, " {refusal}")?,
     }
     text(b"\n", out)
 }
 
 fn say_radius(draft: Draft, c: usize, out: &mut impl Write) -> io::Result<()> {
-    text(b"radius at", out)?;
-    number(c, out)?;
-    let a = board::radius(draft, Centre(c));
-    match a {
-        RadiusAnswer::Radius(r) => number(r, out)?,
-        RadiusAnswer::Refused(x) => refusal(x, out)?,
-    }
+    write!(out, "radius at {c}")?;
+    said(board::radius(draft, Centre(c)), out)?;
     text(b"\n", out)
 }
 
 // The record of all picks in 2 sections, and the output as it then stands.
 fn say_record(draft: Draft, output: &mut [u8], out: &mut impl Write) -> io::Result<()> {
-    let n = draft.n;
     text(b"record", out)?;
-    let a = board::fold(draft, Place(n), 2, output);
-    match a {
-        RecordAnswer::Written(bytes) => number(bytes, out)?,
-        RecordAnswer::Refused(x) => refusal(x, out)?,
-    }
+    said(board::fold(draft, Place(draft.numbers.n), 2, output), out)?;
     text(b" ", out)?;
     text(output, out)
 }
 
 // ABACDDC: split, moved, record.
 fn two_sections(out: &mut impl Write) -> io::Result<()> {
-    let draft = fed(b"ABACDDC", out)?;
+    let draft = draft_of(b"ABACDDC", out)?;
     split_into(draft, 2, out)?;
     say_longest(draft, out)?;
-    let mut output = [46u8; 14];
+    let mut output = [b'.'; 14];
     say_record(draft, &mut output, out)?;
-    let mut short = [46u8; 13];
+    let mut short = [b'.'; 13];
     say_record(draft, &mut short, out)?;
     text(b"\n", out)
 }
 
 // AABACABAA: radii, and the endings one after the other.
 fn centres(out: &mut impl Write) -> io::Result<()> {
-    let draft = fed(b"AABACABAA", out)?;
-    say_radius(draft, 10, out)?;
-    say_radius(draft, 11, out)?;
-    say_radius(draft, 3, out)?;
-    say_radius(draft, 20, out)?;
+    let draft = draft_of(b"AABACABAA", out)?;
+    for c in [10, 11, 3, 20] {
+        say_radius(draft, c, out)?;
+    }
     say_longest(draft, out)?;
-    say_next(draft, 10, out)?;
-    say_next(draft, 17, out)?;
-    say_next(draft, 18, out)?;
-    say_next(draft, 19, out)
+    for c in [10, 17, 18, 19] {
+        say_next(draft, c, out)?;
+    }
+    Ok(())
 }
 
 pub fn run(out: &mut impl Write) -> io::Result<()> {
     let empty = started();
     say_mask(empty, out)?;
     split_each(empty, out)?;
-    split_into(fed(b"AAA", out)?, 2, out)?;
-    say_mask(fed(b"ABABABA", out)?, out)?;
+    split_into(draft_of(b"AAA", out)?, 2, out)?;
+    say_mask(draft_of(b"ABABABA", out)?, out)?;
     two_sections(out)?;
     centres(out)
 }

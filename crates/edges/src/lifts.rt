@@ -1,9 +1,9 @@
 // The mill's own lifts: B lifts as A does, and every other letter all eight harnesses; numbers 14, 15 and 16; a start brings the fixed
 // table back.
 use crate::drafts::{one_more, started};
-use crate::print::{number, refusal, text};
+use crate::print::{said, text};
 use cells::{ALPHABET, Lifts};
-use promises::{Draft, LiftAnswer, LoadAnswer};
+use promises::Draft;
 use std::io;
 use std::io::Write;
 
@@ -19,28 +19,14 @@ fn two_alike() -> Lifts {
 fn say_load(draft: Draft, table: &[u8], out: &mut impl Write) -> io::Result<Draft> {
     text(b"load", out)?;
     let r = board::load(draft, table);
-    let answer = r.answer;
-    match answer {
-        LoadAnswer::InForce => text(b" in force", out)?,
-        LoadAnswer::Refused(x) => refusal(x, out)?,
-        LoadAnswer::RefusedAt(x, place) => {
-            refusal(x, out)?;
-            text(b" at", out)?;
-            number(place, out)?;
-        }
-    }
+    said(r.answer.map(|()| "in force"), out)?;
     text(b"\n", out)?;
-    let state = r.state;
-    Ok(state)
+    Ok(r.state)
 }
 
 fn say_lift(draft: Draft, letter: u8, out: &mut impl Write) -> io::Result<()> {
     text(b"lift", out)?;
-    let a = board::lift(draft, letter);
-    match a {
-        LiftAnswer::Lift(lift) => number(lift as usize, out)?,
-        LiftAnswer::Refused(x) => refusal(x, out)?,
-    }
+    said(board::lift(draft, letter), out)?;
     text(b"\n", out)
 }
 
@@ -50,18 +36,16 @@ fn refused_tables(draft: Draft, out: &mut impl Write) -> io::Result<()> {
     zero[3] = 0;
     zero[25] = 0;
     say_load(draft, &zero, out)?;
-    let short = [255u8; ALPHABET - 1];
-    say_load(draft, &short, out)?;
-    let long = [255u8; ALPHABET + 1];
-    say_load(draft, &long, out)?;
-    say_lift(draft, 66, out)?;
-    say_lift(draft, 64, out)
+    say_load(draft, &[255u8; ALPHABET - 1], out)?;
+    say_load(draft, &[255u8; ALPHABET + 1], out)?;
+    say_lift(draft, b'B', out)?;
+    say_lift(draft, b'A' - 1, out)
 }
 
 // Feeds A and B.
 fn two_picks(draft: Draft, out: &mut impl Write) -> io::Result<Draft> {
-    let one = one_more(draft, b"A", 65, out)?;
-    one_more(one, b"AB", 66, out)
+    let one = one_more(draft, b"A", b'A', out)?;
+    one_more(one, b"AB", b'B', out)
 }
 
 pub fn run(out: &mut impl Write) -> io::Result<()> {
@@ -69,10 +53,8 @@ pub fn run(out: &mut impl Write) -> io::Result<()> {
     let empty = started();
     refused_tables(empty, out)?;
     let loaded = say_load(empty, &table, out)?;
-    say_lift(loaded, 66, out)?;
+    say_lift(loaded, b'B', out)?;
     let two = two_picks(loaded, out)?;
     say_load(two, &table, out)?;
-    let again = board::start(two, 8);
-    let state = again.state;
-    say_lift(state, 66, out)
+    say_lift(board::start(two, 8).state, b'B', out)
 }

@@ -1,5 +1,6 @@
-// What is printed: text, numbers, and the front of a list.
-use cells::{at, wide};
+// What is printed: text, numbers, the front of a list, and answers.
+use promises::{FeedAnswer, Refusal};
+use std::fmt::Display;
 use std::io;
 use std::io::Write;
 
@@ -14,14 +15,27 @@ pub fn number(n: usize, out: &mut impl Write) -> io::Result<()> {
 
 // The first entries of a list.
 pub fn front(list: &[u16], count: usize, out: &mut impl Write) -> io::Result<()> {
-    for j in 0..count {
-        number(wide(at(list, j)), out)?;
+    for &entry in list.iter().take(count) {
+        number(usize::from(entry), out)?;
     }
     Ok(())
 }
 
-// A refusal's number.
-pub fn refusal(number: u8, out: &mut impl Write) -> io::Result<()> {
-    text(b" refused", out)?;
-    self::number(number as usize, out)
+// What an answer gives, or its refusal, behind a blank.
+pub fn said<T: Display + Copy>(answer: Result<T, Refusal>, out: &mut impl Write) -> io::Result<()> {
+    match answer {
+        Ok(value) => write!(out, " {value}"),
+        Err(refusal) => write!(out, " {refusal}"),
+    }
+}
+
+// The answer to a feed, and the pick's visits.
+pub fn fed(answer: FeedAnswer, visits: &[u16], out: &mut impl Write) -> io::Result<()> {
+    match answer {
+        FeedAnswer::Taken(mask, count) => {
+            write!(out, " mask {mask} visits")?;
+            front(visits, count, out)
+        }
+        FeedAnswer::Refused(number) => write!(out, " refused {number}"),
+    }
 }

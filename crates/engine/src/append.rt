@@ -1,11 +1,10 @@
 // Section 4, append: the core.
 ghost use Rattle.std.specs.Prelude.{◌≤◌, ◌<◌};
 ghost use Rattle.words.specs.Definitions.{most_picks, most_sections};
-ghost use Rattle.cells.specs.Lanes.{by_centre, by_place};
 ghost use Rattle.models.specs.Core.{arrays_in, after, Appends};
 
 use crate::step::step;
-use cells::{Centre, Centres, Letters, NEXT, Numbers, Places};
+use cells::{Centre, Centres, Letters, Numbers, Places};
 
 // What one pick more gives beside the arrays: its row word, the count of its visits, the centre of the longest ending.
 #[derive(Clone, Copy)]
@@ -26,8 +25,8 @@ pub fn append(
 ) -> Appended
     requires { (held.n < most_picks) × (held.k ≤ most_sections) }
     ensures { Appends held.k held.n pick
-        (arrays_in letters.old (by_centre centres.old) (by_place places.old) held.longest.0) visits.old
-        (after (arrays_in letters.new (by_centre centres.new) (by_place places.new) result.longest.0) visits.new result.row result.count) }
+        (arrays_in letters.old centres.old places.old held.longest.0) visits.old
+        (after (arrays_in letters.new centres.new places.new result.longest.0) visits.new result.row result.count) }
 {
     let longest = iterator::append::append(letters, centres, places, held.n, held.longest, pick);
     let new = Numbers {
@@ -35,7 +34,7 @@ pub fn append(
         k: held.k,
         longest,
     };
-    let s = step(&centres[NEXT], places, visits, new);
+    let s = step(&centres.next, places, visits, new);
     Appended {
         row: s.row,
         count: s.count,

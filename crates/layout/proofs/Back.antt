@@ -1,6 +1,6 @@
 -- A state that was reached says which bytes led to it, and a closed one that they are a record.
 use Rattle.std.specs.Prelude.{◌≡◌, refl, List, [], ◌∷◌, ◌++◌, ℕ, zero, suc, ◌+◌, ◌/◌, ◌%◌, ◌≤◌, ◌<◌, length}
-use Rattle.std.proofs.Common.{sym, ap, ◌∙◌, append_assoc, append-nil}
+use Rattle.std.proofs.Common.{sym, ap, ◌∙◌, append_assoc, append-nil, length-append, add-one}
 use Rattle.std.proofs.Math.Option.{Option, some, none}
 use native.Mathlib.Omega.{arith}
 use Rattle.std.proofs.Math.Decide.{dec_lt}
@@ -11,7 +11,7 @@ use Rattle.text.specs.Decimal.{decimal_digit, decimal_more}
 use Rattle.layout.specs.Record.{Folded, fields_of, behind_commas, laid_out}
 use Rattle.layout.specs.Layout.{Every, none as every-none, Letter, Digit, Fits, Laid, opening}
 use Rattle.layout.specs.Reading.{State, in_picks, in_count, in_length, in_half, closed, start, onward, step, run}
-use Rattle.layout.proofs.Entries.{length_snoc, every_snoc}
+use Rattle.layout.proofs.Entries.{every_snoc}
 use Rattle.layout.proofs.Steps.{Steps, picks_digit, picks_end, count_digit, count_end, length_digit, length_end, letter, another, last}
 use Rattle.layout.proofs.Steps.{steps}
 
@@ -56,7 +56,7 @@ record_snoc : (p c : ℕ) (fs : List Folded) (f : Folded) → suc (length fs) �
     → laid_out p (fs ++ f ∷ []) ≡ (opening p c fs ++ folded_bytes f) ++ line_end ∷ []
 unfolding laid_out opening
 record_snoc p c fs f e =
-    ap (λ k. opening p k (fs ++ f ∷ []) ++ line_end ∷ []) (length_snoc fs f ∙ e)
+    ap (λ k. opening p k (fs ++ f ∷ []) ++ line_end ∷ []) (length-append fs (f ∷ []) ∙ add-one (length fs) ∙ e)
     ∙ ap (λ l. l ++ line_end ∷ []) (opening_snoc p c fs f)
 
 -- The bytes that lead to a state, and what is known of its numbers and sections
@@ -101,15 +101,15 @@ step_back (length_digit {v = v} {b = b} d w) h =
 step_back (length_end {v = v} l) h =
     ((h.0, h.1, h.2, h.3, record { low = l; high = h.4 }, every-none, omega arith), rw (digits_some v l) (simp append_assoc))
 step_back (letter {b = b} {half = half} l k) h =
-    ((h.0, h.1, h.2, h.3, h.4, every_snoc h.5 k, omega (arith, length_snoc half b)), simp append_assoc)
+    ((h.0, h.1, h.2, h.3, h.4, every_snoc h.5 k, omega (arith, length-append half (b ∷ []))), simp append_assoc)
 step_back (another {p = p} {c = c} {len = len} {fs = fs} {half = half} l k) h =
     let f : Folded = record { len = len; half = half } in (
-      (h.0, h.1, every_snoc h.2 (fits h l), omega (arith, length_snoc fs f), omega arith),
+      (h.0, h.1, every_snoc h.2 (fits h l), omega (arith, length-append fs (f ∷ [])), omega arith),
       ap (λ l. l ++ comma ∷ []) (opening_snoc p c fs f),
     )
 step_back (last {p = p} {c = c} {len = len} {fs = fs} {half = half} l k) h =
     let f : Folded = record { len = len; half = half } in
-    let n : length (fs ++ f ∷ []) ≡ c = length_snoc fs f ∙ omega (arith, h.3) in
+    let n : length (fs ++ f ∷ []) ≡ c = length-append fs (f ∷ []) ∙ omega (arith, h.3) in
     ((h.0, rw n h.1, every_snoc h.2 (fits h l)), record_snoc p c fs f (omega (arith, h.3)))
 
 run_back : (s t : State) (bytes : List ℕ) → Valid s → run s bytes ≡ some t → Led t (bytes_to s ++ bytes)

@@ -7,7 +7,7 @@ use Rattle.text.specs.Definitions.{decimal}
 use Rattle.text.specs.Decimal.{decimal_digits}
 use Rattle.layout.specs.Layout.{Every, none as every-none, Digit, NumberOutside, BreaksAt, number, byte}
 use Rattle.layout.specs.Reading.{State, start, is_digit, run, reach, number_at, breaks, reading}
-use Rattle.layout.proofs.Entries.{length_snoc, every_append, every_snoc, every_of}
+use Rattle.layout.proofs.Entries.{every_append, every_snoc, every_of}
 use Rattle.layout.proofs.Forward.{run_append, run_digits}
 use Rattle.layout.proofs.Back.{digits_to, bytes_to, Led, back}
 use Rattle.layout.proofs.ReadingLaws.{Read, breaks_at, reach_front, reach_stuck, reach_within, run_front, stops_law}
@@ -61,7 +61,7 @@ module _ (bytes : List ℕ) (r : ℕ) (inside : r < length bytes) (stuck : run s
         at = refl;
         most = n.most;
         due = n.at;
-        some = omega (arith, length-append ds after.digits, length_snoc (digits_to n.v) b);
+        some = omega (arith, length-append ds after.digits, length-append (digits_to n.v) (b ∷ []));
         all = every_append (every_snoc (digits_to_lem n.v) (true_digit b digit)) after.all;
         whole = after.whole;
         outside = λ k w e.

@@ -1,12 +1,9 @@
 -- Every entry of a list, and one entry more.
 use Rattle.std.specs.Prelude.{◌≡◌, ℕ, zero, suc, ◌<◌, length, get_or, take}
-use Rattle.std.proofs.Common.{◌∙◌, arith, length-append}
+use Rattle.std.proofs.Common.{arith}
 use mathlib.Core.List.{List, [], ◌∷◌, ◌++◌, reverse, reverse-cons}
 use Rattle.words.proofs.Cases.{clash}
 use Rattle.layout.specs.Layout.{Every, none, more}
-
-pub length_snoc : {A : Type 0} (l : List A) (a : A) → length (l ++ a ∷ []) ≡ suc (length l)
-length_snoc l a = length-append l (a ∷ []) ∙ omega arith
 
 module _ {A : Type 0} {P : A → Type 0} where
   pub every_append : {l m : List A} → Every P l → Every P m → Every P (l ++ m)

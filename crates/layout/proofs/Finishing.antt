@@ -1,6 +1,6 @@
 -- From every state that is reached a record can be finished: the bytes read so far begin one.
 use Rattle.std.specs.Prelude.{◌≡◌, refl, List, [], ◌∷◌, ◌++◌, ℕ, zero, suc, ◌+◌, ◌-◌, ◌*◌, ◌/◌, ◌≤◌, ◌<◌, length}
-use Rattle.std.proofs.Common.{ap, ◌∙◌, arith}
+use Rattle.std.proofs.Common.{ap, ◌∙◌, arith, length-append}
 use Rattle.std.proofs.Math.Option.{some}
 use Rattle.std.proofs.Math.Decide.{dec_lt}
 use Rattle.words.specs.Definitions.{From, most_picks, most_sections, first_letter}
@@ -8,7 +8,6 @@ use Rattle.text.specs.Definitions.{comma, line_end, digit_zero}
 use Rattle.layout.specs.Record.{Folded}
 use Rattle.layout.specs.Layout.{Begins}
 use Rattle.layout.specs.Reading.{State, in_picks, in_count, in_length, in_half, closed, start, onward, in_number, step, run}
-use Rattle.layout.proofs.Entries.{length_snoc}
 use Rattle.layout.proofs.Steps.{by_digit, by_comma, by_letter, by_section, by_end, steps}
 use Rattle.layout.proofs.Forward.{run_one, run_append}
 use Rattle.layout.proofs.Back.{Valid, step_back, back, back_closed}
@@ -53,14 +52,14 @@ nearer_half p c fs f h = elim (dec_lt (length f.half) ((f.len + 1) / 2)) [
     byte = first_letter;
     to = in_half p c fs f.len (f.half ++ first_letter ∷ []);
     goes = by_letter p c fs f first_letter x (record { low = omega arith; high = omega arith });
-    less = omega (arith, length_snoc f.half first_letter);
+    less = omega (arith, length-append f.half (first_letter ∷ []));
   }
   | no x ↦ elim (dec_lt (suc (length fs)) c) [
     | yes y ↦ record {
       byte = comma;
       to = in_length p c (fs ++ f ∷ []) 0;
       goes = by_section p c fs f (omega (arith, h.6)) y;
-      less = omega (arith, length_snoc fs f);
+      less = omega (arith, length-append fs (f ∷ []));
     }
     | no y ↦ record {
       byte = line_end;

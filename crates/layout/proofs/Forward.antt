@@ -1,6 +1,6 @@
 -- A record of the layout is read to its end, and what was read is what was written.
 use Rattle.std.specs.Prelude.{◌≡◌, refl, ℕ, suc, ◌+◌, ◌*◌, ◌/◌, ◌%◌, ◌≤◌, ◌<◌, length}
-use Rattle.std.proofs.Common.{sym, ◌∙◌}
+use Rattle.std.proofs.Common.{sym, ◌∙◌, length-append}
 use Rattle.std.proofs.Math.Path.{ap}
 use mathlib.Core.List.{List, [], ◌∷◌, ◌++◌, append_assoc, append-nil}
 use Rattle.std.proofs.Math.Option.{Option, some, none}
@@ -12,7 +12,6 @@ use Rattle.text.specs.Decimal.{by_digits}
 use Rattle.layout.specs.Record.{Folded, fields_of, behind_commas, laid_out}
 use Rattle.layout.specs.Layout.{Every, none as every-none, more as every_more, Letter, Fits, Laid, opening}
 use Rattle.layout.specs.Reading.{State, in_picks, in_count, in_length, in_half, closed, start, onward, in_number, and_then, step, run}
-use Rattle.layout.proofs.Entries.{length_snoc}
 use Rattle.layout.proofs.Steps.{by_digit, by_comma, by_letter, by_section, by_end}
 
 -- Bytes one behind another
@@ -74,7 +73,7 @@ run_letters p c fs len half [] e every-none = ap (λ l. some (in_half p c fs len
 run_letters p c fs len half (b ∷ rest) e (every_more l ls) =
     run_one (in_half p c fs len half) (in_half p c fs len (half ++ b ∷ [])) b rest
     (by_letter p c fs (record { len = len; half = half }) b (omega arith) l)
-    ∙ run_letters p c fs len (half ++ b ∷ []) rest (omega (arith, length_snoc half b)) ls
+    ∙ run_letters p c fs len (half ++ b ∷ []) rest (omega (arith, length-append half (b ∷ []))) ls
     ∙ ap (λ l. some (in_half p c fs len l)) (append_assoc half (b ∷ []) rest)
 
 run_section : (p c : ℕ) (fs : List Folded) (f : Folded) (rest : List ℕ) → Fits f
@@ -102,7 +101,7 @@ module _ (p c n b : ℕ) (to : List Folded → State) (within : n ≤ c)
       ∙ run_one (in_half p c fs f.len f.half) (in_length p c (fs ++ f ∷ []) 0) comma after
       (by_section p c fs f h.halved (omega arith))
       ∙ run_section p c (fs ++ f ∷ []) g tail k
-      ∙ run_sections (fs ++ f ∷ []) g rest k ks (omega (arith, length_snoc fs f))
+      ∙ run_sections (fs ++ f ∷ []) g rest k ks (omega (arith, length-append fs (f ∷ [])))
       ∙ ap (λ l. some (to l)) (append_assoc fs (f ∷ []) (g ∷ rest))
 
   pub run_opening : (f : Folded) (fs : List Folded) → From 1 most_picks p → From 1 most_sections c → Fits f → Every Fits fs

@@ -16,7 +16,7 @@ use Rattle.text.specs.Definitions.{comma, decimal}
 use Rattle.layout.specs.Layout.{Every, more as every_more, Digit, opening, NumberDue, of_picks, of_sections, of_length, NumberOutside}
 use Rattle.layout.specs.Reading.{State, start, onward, in_number, step, run, one_past, reach}
 use Rattle.layout.specs.Reading.{is_digit, number_at, breaks, reading_of, reading}
-use Rattle.layout.proofs.Entries.{length_snoc, every_at}
+use Rattle.layout.proofs.Entries.{every_at}
 use Rattle.layout.proofs.Steps.{Numbered, digit, ended, numbered}
 use Rattle.layout.proofs.Forward.{run_append}
 use Rattle.layout.proofs.Back.{digits_to, digits_some, digits_on}
@@ -66,7 +66,7 @@ module _ (most : ℕ) (more next : ℕ → State) (is : (v b : ℕ) → step (mo
 
 behind_comma : (x rest : List ℕ) → number_at ((x ++ comma ∷ []) ++ rest) (length (x ++ comma ∷ [])) ≡ length (x ++ comma ∷ [])
 behind_comma x rest = number_apart ((x ++ comma ∷ []) ++ rest) (length (x ++ comma ∷ [])) (λ j e p q.
-    let z : length x ≡ j = omega (arith, length_snoc x comma) in
+    let z : length x ≡ j = omega (arith, length-append x (comma ∷ [])) in
     let is : get_or ((x ++ comma ∷ []) ++ rest) j 0 ≡ comma = rw (append_assoc x (comma ∷ []) rest) (get_or_at x comma rest 0 j z) in
     omega (arith, (true_digit comma (ap is_digit (sym is) ∙ p)).low))
 

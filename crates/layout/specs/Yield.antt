@@ -1,13 +1,11 @@
 -- What a reader of a record yields, step by step.
-use Rattle.std.specs.Prelude.{◌≡◌, cond, ◌≢◌, List, [], ◌∷◌, ◌++◌, ℕ, zero, suc, ◌+◌, ◌*◌, ◌/◌, ◌%◌, ◌<◌, eqb, length}
+use Rattle.std.specs.Prelude.{◌≡◌, cond, ◌≢◌, Option, Some, None, List, [], ◌∷◌, ◌++◌, ℕ, zero, suc, ◌+◌, ◌*◌, ◌/◌, ◌%◌, ◌<◌, eqb, length}
 use Rattle.cells.specs.declared.Place.{Place}
 use Rattle.words.specs.Definitions.{centre}
 use Rattle.text.specs.Definitions.{comma, decimal}
 use Rattle.layout.specs.declared.Turn.{Turn}
 use Rattle.layout.specs.declared.Turn.TheVariants.{OnPick, Between}
 use Rattle.layout.specs.declared.Section.{Section}
-use Rattle.layout.specs.declared.Yielded.{Yielded}
-use Rattle.layout.specs.declared.Yielded.TheVariants.{Next, Nothing}
 use Rattle.layout.specs.declared.Found.{Found}
 use Rattle.layout.specs.Record.{Folded}
 use Rattle.layout.specs.Layout.{total, opening}
@@ -22,10 +20,10 @@ unfolding turn_of
 section_after a len = record { length = len; turn = turn_of a len }
 
 abbrev pub nothing_at : (at : ℕ) → Found
-nothing_at at = record { yielded = Nothing; next = at }
+nothing_at at = record { yielded = None; next = at }
 
 abbrev pub found_at : Section → (next : ℕ) → Found
-found_at s next = record { yielded = Next s; next = next }
+found_at s next = record { yielded = Some s; next = next }
 
 -- the bytes from a section's first byte to that of the next: its length and its half, and behind each a comma or the end of the line
 unfoldable pub bytes_in : Folded → ℕ
@@ -58,9 +56,9 @@ yield_at bytes at = yielded (reading bytes) at
 
 -- Stepping: from a place on, at most so many steps
 
-abbrev pub on_from : Yielded → List Section → List Section
-on_from (Next s) rest = s ∷ rest
-on_from Nothing rest = []
+abbrev pub on_from : Option Section → List Section → List Section
+on_from (Some s) rest = s ∷ rest
+on_from None rest = []
 
 unfoldable pub walk : (bytes : List ℕ) (steps at : ℕ) → List Section
 unfolding yield_at

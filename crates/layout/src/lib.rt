@@ -19,15 +19,9 @@ pub struct Section {
     pub turn: Turn,
 }
 
-#[derive(Clone, Copy)]
-pub enum Yielded {
-    Next(Section),
-    Nothing,
-}
-
-// What a reader yields at a place of a record, and the place after it.
+// What a reader yields at a place of a record, if a section begins there, and the place after it.
 #[derive(Clone, Copy)]
 pub struct Found {
-    pub yielded: Yielded,
+    pub yielded: Option<Section>,
     pub next: usize,
 }

@@ -7,7 +7,9 @@ use Rattle.std.proofs.Math.ListN.{get_or-append}
 use Rattle.std.proofs.lemmas.List.Edits.{sets}
 use Rattle.std.proofs.Math.Seq.{length-sets, get_or-append_seam}
 use Rattle.std.specs.Int.Bits.{bit_or}
-use Rattle.cells.specs.Lanes.{centre_entries, place_entries, ByCentre, ByPlace, with_heads}
+use Rattle.cells.specs.declared.Centres.{Centres}
+use Rattle.cells.specs.declared.Places.{Places}
+use Rattle.cells.specs.Lanes.{centre_entries, place_entries, with_heads}
 use Rattle.words.specs.Definitions.{most_picks, most_visits, word}
 use Rattle.words.specs.Prefixes.{Agree}
 use Rattle.models.proofs.Centres.{longest_centre_at}
@@ -37,8 +39,8 @@ joined_as : (K n m pick : ℕ) (a : Arrays) (vs : List ℕ) (t : Iterator) (f : 
 unfolding append
 joined_as K n m pick a vs t f e g h = let z : m ≡ suc n = omega arith in rw (h, z, g)
 
--- the code's way to it: m is n + 1; v' and w' are the lanes after the iterator's append, which leaves the rows and the gathered words
-pub append_as : (K n m pick stored s : ℕ) (letters letters' : List ℕ) (v v' : ByCentre) (w w' : ByPlace) (vs : List ℕ) (f : Stepped) → m ≡ n + 1
+-- the code's way to it: m is n + 1; v' and w' are the arrays after the iterator's append, which leaves the rows and the gathered words
+pub append_as : (K n m pick stored s : ℕ) (letters letters' : List ℕ) (v v' : Centres) (w w' : Places) (vs : List ℕ) (f : Stepped) → m ≡ n + 1
     → iterator_in letters' v' w' s ≡ appended (iterator_in letters v w stored) n pick
     → w' ≡ with_heads w w'.heads
     → f ≡ stepped K m s w' v'.next vs

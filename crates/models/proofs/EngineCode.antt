@@ -9,7 +9,8 @@ use Rattle.std.proofs.Math.Nat.{mod-eq-sub-mod}
 use Rattle.std.proofs.Math.ListN.{get_or}
 use Rattle.std.proofs.lemmas.List.Edits.{sets}
 use Rattle.std.specs.Int.Bits.{bit_or}
-use Rattle.cells.specs.Lanes.{ByPlace, rows_lane, gathered_lane, place_stored}
+use Rattle.cells.specs.declared.Places.{Places}
+use Rattle.cells.specs.Lanes.{with_rows, with_gathered}
 use Rattle.words.specs.Definitions.{centre, next_leading, Cubic}
 use Rattle.words.specs.Computed.{cubic?, mended, raised}
 use Rattle.models.specs.Iterator.{period_at}
@@ -56,26 +57,29 @@ module _ (R G : List ℕ) (n len p i v : ℕ) (at : i ≡ n - len) where
       go (no y) e = absurd (y h)
 
 -- a visit: p is the period, d the next length, x the value, i the place
-pub visit_as : (N : List ℕ) (w w' : ByPlace) (n len p d x i : ℕ) → p ≡ period_of N n len → d ≡ next_leading len p
+pub visit_as : (N : List ℕ) (w w' : Places) (n len p d x i : ℕ) → p ≡ period_of N n len → d ≡ next_leading len p
     → x ≡ mended bit_or (λ j. get_or w.rows j 0) n len p (get_or w.gathered (n - len) 0) → i ≡ n - len
-    → w' ≡ place_stored w gathered_lane i x
-    → (d ≡ next_leading len (period_of N n len)) ×
-    ((x ≡ mended bit_or (λ j. get_or w.rows j 0) n len (period_of N n len) (get_or w.gathered (n - len) 0)) × (w' ≡ place_stored w gathered_lane (n - len) x))
-visit_as N w w' n len p d x i e₁ e₂ e₃ e₄ e₅ =
-    (e₂ ∙ ap (next_leading len) e₁, (e₃ ∙ ap (λ q. mended bit_or (λ j. get_or w.rows j 0) n len q (get_or w.gathered (n - len) 0)) e₁, e₅ ∙ ap (λ j. place_stored w gathered_lane j x) e₄))
+    → w' ≡ with_gathered w (set w.gathered i x)
+    → (d ≡ next_leading len (period_of N n len))
+    × ((x ≡ mended bit_or (λ j. get_or w.rows j 0) n len (period_of N n len) (get_or w.gathered (n - len) 0))
+    × (w' ≡ with_gathered w (set w.gathered (n - len) x)))
+visit_as N w w' n len p d x i e₁ e₂ e₃ e₄ e₅ = (
+  e₂ ∙ ap (next_leading len) e₁,
+  (e₃ ∙ ap (λ q. mended bit_or (λ j. get_or w.rows j 0) n len q (get_or w.gathered (n - len) 0)) e₁, e₅ ∙ ap (λ j. with_gathered w (set w.gathered j x)) e₄),
+)
 
-seen_as_lem : {w : ByPlace} {vs vs' : List ℕ} {a c c' : ℕ} → vs ≡ vs' → c ≡ c' → seen_as w a vs c ≡ seen_as w a vs' c'
+seen_as_lem : {w : Places} {vs vs' : List ℕ} {a c c' : ℕ} → vs ≡ vs' → c ≡ c' → seen_as w a vs c ≡ seen_as w a vs' c'
 seen_as_lem r s = cc
 
 -- one entry stored, and the rest of them
-seen_next : (w : ByPlace) (z : Walked) (vs : List ℕ) (x c : ℕ)
+seen_next : (w : Places) (z : Walked) (vs : List ℕ) (x c : ℕ)
     → seen w z (set vs c x) (c + 1) ≡ seen w (walked z.gathered z.union (x ∷ z.lengths)) vs c
 seen_next w z vs x c = let e : c + 1 ≡ suc c = omega arith in seen_as_lem (ap (λ y. sets (set vs c x) y z.lengths) e) (omega arith)
 
 -- it is at len with count entries stored and a joined; x is the visited place's value
 module _ (N : List ℕ) (n : ℕ) where
-  pub walk_on_lem : (k len d x a a' count count' entry : ℕ) (w w' : ByPlace) (vs vs' : List ℕ) → len ≤ k → 0 < len → d ≡ next_leading len (period_of N n len)
-      → x ≡ mended bit_or (λ j. get_or w.rows j 0) n len (period_of N n len) (get_or w.gathered (n - len) 0) → w' ≡ place_stored w gathered_lane (n - len) x
+  pub walk_on_lem : (k len d x a a' count count' entry : ℕ) (w w' : Places) (vs vs' : List ℕ) → len ≤ k → 0 < len → d ≡ next_leading len (period_of N n len)
+      → x ≡ mended bit_or (λ j. get_or w.rows j 0) n len (period_of N n len) (get_or w.gathered (n - len) 0) → w' ≡ with_gathered w (set w.gathered (n - len) x)
       → entry ≡ len → vs' ≡ set vs count entry → a' ≡ bit_or a x → count' ≡ count + 1
       → (j : ℕ) × (d ≤ j) × (seen_in N n j d a' w' vs' count' ≡ seen_in N n k len a w vs count)
   unfolding walk
@@ -90,16 +94,16 @@ module _ (N : List ℕ) (n : ℕ) where
       fewer : {a b : ℕ} → a < b → b ≤ suc k → a ≤ k
       fewer a b = omega arith
 
-  pub walk_end : (k len a count : ℕ) (w : ByPlace) (vs : List ℕ) → len ≤ 0 → seen_in N n k len a w vs count ≡ seen_as w a vs count
+  pub walk_end : (k len a count : ℕ) (w : Places) (vs : List ℕ) → len ≤ 0 → seen_in N n k len a w vs count ≡ seen_as w a vs count
   unfolding walk
   walk_end zero len a count w vs h = seen_as_lem refl (omega arith)
   walk_end (suc k) zero a count w vs h = seen_as_lem refl (omega arith)
   walk_end (suc k) (suc x) a count w vs h = absurd (omega arith)
 
 -- the engine's step: len is the longest ending's length, x the new row word
-pub stepped_as_lem : (K n s len x : ℕ) (w w₁ w₂ : ByPlace) (N vs : List ℕ) (z : Seen) → len ≡ longest_length n s → z ≡ seen_in N n len len 0 w vs 0
-    → x ≡ raised K z.union → w₁ ≡ place_stored z.placed rows_lane n x → w₂ ≡ place_stored w₁ gathered_lane n x
-    → stepped_as w₂ z.visits x z.count ≡ stepped K n s w N vs
+pub stepped_as_lem : (K n s len x : ℕ) (w : Places) (R G N vs : List ℕ) (z : Seen) → len ≡ longest_length n s → z ≡ seen_in N n len len 0 w vs 0
+    → x ≡ raised K z.union → R ≡ set z.placed.rows n x → G ≡ set z.placed.gathered n x
+    → stepped_as (with_gathered (with_rows z.placed R) G) z.visits x z.count ≡ stepped K n s w N vs
 unfolding stepped
-stepped_as_lem K n s len x w w₁ w₂ N vs z e₁ e₂ e₃ e₄ e₅ =
+stepped_as_lem K n s len x w R G N vs z e₁ e₂ e₃ e₄ e₅ =
     rw (e₅, e₄, e₃) (ap (closed K n) (e₂ ∙ ap (λ y. seen_in N n y y 0 w vs 0) e₁))

@@ -1,6 +1,6 @@
 -- The iterator's invariant: one letter more keeps it, and what it answers (the paper, Proposition 1).
 use Rattle.std.specs.Prelude.{◌≡◌, true, false, List}
-use Rattle.std.proofs.Common.{◌∙◌, le-leb, eq-eqb, ne_eqb}
+use Rattle.std.proofs.Common.{◌∙◌, le-leb, eq-eqb, ne_eqb, get_or-set_same, get_or-set_other}
 use Prim.Native.Nat.{ℕ, suc, ◌+◌, ◌*◌, ◌-◌, ◌/◌, ◌≤◌, ◌<◌}
 use native.Mathlib.Omega.{arith}
 use Rattle.std.proofs.Math.Decide.{dec_le, dec_lt, ℕ_discrete}
@@ -19,7 +19,6 @@ use Rattle.models.proofs.Reflection.{empty_at}
 use Rattle.models.proofs.Linked.{linked_as, linked_from}
 use Rattle.models.specs.Iterator.{Iterator, radius_of, longest_of, last_centre, is_ending, period_at, Scanned, links, unlinks, scan_of, lengthened, lost_place, lost_head, appended}
 use Rattle.models.specs.Stores.{at}
-use Rattle.models.proofs.Stores.{set_here, set_there}
 use Rattle.models.specs.Scanning.{LastWith, Radii, Stretches, Found}
 use Rattle.models.proofs.Scanning.{stretches_as, scan_begin, scan_right, reflected_widest}
 use Rattle.models.specs.Unlinking.{Chain, Old}
@@ -81,8 +80,8 @@ module _ {w : ℕ → ℕ} (v : ℕ → ℕ) (n pick : ℕ) (t : Iterator) (h : 
       record {
         size = omega (arith, length-set t.letters n pick, h.size);
         letters = λ i x. elim (ℕ_discrete i n) [
-          | yes y ↦ rw y (omega (arith, set_here t.letters n pick (omega (arith, h.size)), e))
-          | no y ↦ set_there t.letters n i pick y ∙ h.letters i (omega arith) ∙ f i (omega arith)
+          | yes y ↦ rw y (omega (arith, get_or-set_same t.letters n pick 0 (omega (arith, h.size)), e))
+          | no y ↦ get_or-set_other t.letters n i pick 0 y ∙ h.letters i (omega arith) ∙ f i (omega arith)
         ];
         stretches = found.stretches;
         chain = rw z chained;

@@ -6,7 +6,9 @@ use Rattle.std.proofs.Math.Option.{some, none}
 use Prim.Native.Nat.{ℕ, zero, suc, ◌+◌, ◌-◌, ◌*◌, ◌/◌, min, ◌≤◌, ◌<◌}
 use native.Mathlib.Omega.{arith}
 use Rattle.std.proofs.Math.ListN.{get_or}
-use Rattle.cells.specs.Lanes.{ByCentre, ByPlace, radius_lane, lends_lane, next_lane, prev_lane, heads_lane, centre_stored, place_stored, with_heads}
+use Rattle.cells.specs.declared.Centres.{Centres}
+use Rattle.cells.specs.declared.Places.{Places}
+use Rattle.cells.specs.Lanes.{with_radius, with_lends, with_next, with_prev, with_heads}
 use Rattle.words.specs.Definitions.{length_at}
 use Rattle.words.specs.Computed.{next_shorter}
 use Rattle.models.specs.Iterator.{start, reflection, reflected_radius, longest_of, is_ending, period_at, extends, scan, unlinks, appended}
@@ -39,38 +41,43 @@ module _ (letters : List ℕ) (n c r pick i : ℕ) (closes : c / 2 + r ≡ n) (a
   pub extends_edge : i ≤ 0 → false ≡ extends letters n c r pick
   extends_edge l = simp (eq-eqb _ _ closes, le-ltb _ _ (rw at at l))
 
-module _ (letters : List ℕ) (n pick from c m r : ℕ) (v : ByCentre) (w : ByPlace) (is : r ≡ reflected_radius v.radius n from c) where
+-- The scan
+
+module _ (letters : List ℕ) (n pick from c m r : ℕ) (v : Centres) (w : Places) (is : r ≡ reflected_radius v.radius n from c) where
   -- it stops at c
-  pub scan_found : (k r' : ℕ) (v' : ByCentre) → m ≡ suc k → extends letters n c r pick ≡ true → r' ≡ r + 1 → v' ≡ centre_stored v radius_lane c r'
+  pub scan_found : (k r' : ℕ) (v' : Centres) → m ≡ suc k → extends letters n c r pick ≡ true → r' ≡ r + 1 → v' ≡ with_radius v (set v.radius c r')
       → scan_in letters n pick from m c v w ≡ moved c v' w
   unfolding scan
   scan_found k r' v' e g q p = rw (e, p, q, is) (simp (rw is at g))
 
   -- it goes on; i is the place where the stretch starts, x the head of its lend list
-  pub scan_on : (k c' r' i x head : ℕ) (v₁ v₂ : ByCentre) (w' : ByPlace) → m ≡ suc k → extends letters n c r pick ≡ false → c' ≡ c + 1 → r' ≡ r
+  pub scan_on : (k c' r' i x head : ℕ) (v₁ v₂ : Centres) (w' : Places) → m ≡ suc k → extends letters n c r pick ≡ false → c' ≡ c + 1 → r' ≡ r
       → i ≡ start c r → x ≡ get_or w.heads i 0 → head ≡ c
-      → v₁ ≡ centre_stored v radius_lane c r' → v₂ ≡ centre_stored v₁ lends_lane c x → w' ≡ place_stored w heads_lane i head
+      → v₁ ≡ with_radius v (set v.radius c r') → v₂ ≡ with_lends v₁ (set v₁.lends c x) → w' ≡ with_heads w (set w.heads i head)
       → scan_in letters n pick from k c' v₂ w' ≡ scan_in letters n pick from m c v w
   unfolding scan
   scan_on k c' r' i x head v₁ v₂ w' e g s q y z o p t u = rw (e, s, u, t, p, q, o, z, y, is) (simp (rw is at g))
 
--- no centre is left
-pub scan_end : (letters : List ℕ) (n pick from c m : ℕ) (v : ByCentre) (w : ByPlace) (v' : ByCentre) → m ≡ 0 → v' ≡ centre_stored v radius_lane c 0
-    → scan_in letters n pick from m c v w ≡ moved c v' w
+-- no centre is left: it is at the last one
+pub scan_end : (letters : List ℕ) (n pick from c m last : ℕ) (v : Centres) (w : Places) (v' : Centres) → m ≡ 0 → last ≡ c
+    → v' ≡ with_radius v (set v.radius last 0) → scan_in letters n pick from m c v w ≡ moved last v' w
 unfolding scan
-scan_end letters n pick from c m v w v' e p = rw (e, p)
+scan_end letters n pick from c m last v w v' e q p = rw (e, p, q)
 
-pub link_as : (v v₁ v₂ : ByCentre) (x y x' y' : ℕ) → y' ≡ y → x' ≡ x → v₁ ≡ centre_stored v next_lane x y' → v₂ ≡ centre_stored v₁ prev_lane y x' → v₂ ≡ link_in v x y
+-- A link, and a centre taken out of the list
+
+pub link_as : (v v₁ v₂ : Centres) (x y x' y' : ℕ) → y' ≡ y → x' ≡ x → v₁ ≡ with_next v (set v.next x y') → v₂ ≡ with_prev v₁ (set v₁.prev y x')
+    → v₂ ≡ link_in v x y
 link_as v v₁ v₂ x y x' y' e₁ e₂ e₃ e₄ = rw (e₄, e₃, e₂, e₁)
 
-pub unlink_as : (v v₁ v₂ : ByCentre) (c before after p q : ℕ) → before ≡ get_or v.prev c 0 → after ≡ get_or v.next c 0 → p ≡ before → q ≡ after
-    → v₁ ≡ centre_stored v next_lane p after → v₂ ≡ centre_stored v₁ prev_lane q before
+pub unlink_as : (v v₁ v₂ : Centres) (c before after p q : ℕ) → before ≡ get_or v.prev c 0 → after ≡ get_or v.next c 0 → p ≡ before → q ≡ after
+    → v₁ ≡ with_next v (set v.next p after) → v₂ ≡ with_prev v₁ (set v₁.prev q before)
     → v₂ ≡ unlink_in v c
 unlink_as v v₁ v₂ c before after p q e₁ e₂ e₃ e₄ e₅ e₆ = rw (e₆, e₅, e₃, e₄, e₁, e₂)
 
--- The walk over a lend list: it is at x, and y is the next; z is the reflection of x, and v' the lanes without z
+-- The walk over a lend list: it is at x, and y is the next; z is the reflection of x, and v' the arrays without z
 
-module _ (s k x y z : ℕ) (v v' : ByCentre) (bound : x ≤ k) (some : 0 < x) (image : z ≡ reflection x s) (out : v' ≡ unlink_in v z)
+module _ (s k x y z : ℕ) (v v' : Centres) (bound : x ≤ k) (some : 0 < x) (image : z ≡ reflection x s) (out : v' ≡ unlink_in v z)
     (next : y ≡ get_or v'.lends x 0) where
   lent : y ≡ get_or v.lends x 0
   lent = rw out at next
@@ -95,7 +102,7 @@ module _ (s k x y z : ℕ) (v v' : ByCentre) (bound : x ≤ k) (some : 0 < x) (i
       go zero (suc x) b h e f g = absurd (omega arith)
       go (suc k) (suc x) b h e f g = rw (out, e) (simp (le-ltb _ _ (rw f at g)))
 
-pub unlinks_end : (s k x : ℕ) (v : ByCentre) → x ≤ 0 → unlinks_in s k x v ≡ v
+pub unlinks_end : (s k x : ℕ) (v : Centres) → x ≤ 0 → unlinks_in s k x v ≡ v
 unfolding unlinks
 unlinks_end s zero x v h = refl
 unlinks_end s (suc k) zero v h = refl
@@ -103,7 +110,7 @@ unlinks_end s (suc k) (suc x) v h = absurd (omega arith)
 
 -- The iterator's append: from is the stored centre in range, s the new one
 
-pub appended_as : (n pick stored from s i x : ℕ) (letters letters' : List ℕ) (v v₁ v₂ v₃ v₄ : ByCentre) (w w' : ByPlace)
+pub appended_as : (n pick stored from s i x : ℕ) (letters letters' : List ℕ) (v v₁ v₂ v₃ v₄ : Centres) (w w' : Places)
     → from ≡ longest_of n stored
     → moved s v₁ w' ≡ scan_in letters n pick from (2 * n + 2 - from) from v w
     → letters' ≡ set letters n pick

@@ -1,7 +1,7 @@
 -- The scan finds the longest ending, and keeps the radii and the lend lists right (the paper, Section 3, lines 2 to 7).
 use Rattle.std.specs.Prelude.{◌≡◌, Bool, List, set}
 use Rattle.std.proofs.Math.Path.{refl}
-use Rattle.std.proofs.Common.{sym, ◌∙◌, length-set}
+use Rattle.std.proofs.Common.{sym, ◌∙◌, length-set, get_or-set_same, get_or-set_other}
 use Rattle.std.proofs.Math.Bool.{true, false}
 use Prim.Native.Nat.{ℕ, zero, suc, ◌+◌, ◌*◌, ◌-◌, ◌/◌, ◌≤◌, ◌<◌}
 use native.Mathlib.Omega.{arith}
@@ -16,7 +16,7 @@ use Rattle.models.specs.Reflection.{StartsAt}
 use Rattle.models.proofs.Reflection.{narrower, widest_reflect, goes_on_lem, went_on, stays, stayed, single_at, starts_as}
 use Rattle.models.specs.Iterator.{start, reflected_radius, extends, scanned, scan}
 use Rattle.models.specs.Stores.{at, Extends}
-use Rattle.models.proofs.Stores.{set_here, set_there, extends_true, extends_false}
+use Rattle.models.proofs.Stores.{extends_true, extends_false}
 use Rattle.models.specs.Scanning.{LastWith, reach, Lends, Stretches, ScanAt, Found}
 
 pub last_with_as : {P Q : ℕ → Type 0} {s v : ℕ} → ((x : ℕ) → x < s → P x → Q x) → ((x : ℕ) → x < s → Q x → P x) → LastWith P s v → LastWith Q s v
@@ -93,7 +93,7 @@ module _ (w : ℕ → ℕ) (letters : List ℕ) (n pick from : ℕ) (small : n <
     c_small = omega (arith, was.is.high, was.fits)
 
     here : at (set R c r) c ≡ r
-    here = set_here R c r (omega (arith, h.sizes.radius, c_small))
+    here = get_or-set_same R c r 0 (omega (arith, h.sizes.radius, c_small))
 
     starts : StartsAt w (suc n) i c
     starts = record { end = c / 2 + r; sum = omega (arith, g.is.low, g.is.high); widest = g }
@@ -107,9 +107,9 @@ module _ (w : ℕ → ℕ) (letters : List ℕ) (n pick from : ℕ) (small : n <
     kept_lends : Lends w (suc n) (c + 1) (set H i c) (set L c (at H i))
     kept_lends = record {
       head = λ j x. elim (ℕ_discrete j i) [
-        | yes z ↦ rw (z, set_here H i c (omega (arith, h.sizes.heads, i_small)))
+        | yes z ↦ rw (z, get_or-set_same H i c 0 (omega (arith, h.sizes.heads, i_small)))
             (record { below = omega arith; is = λ _. starts; most = λ y p q. omega arith })
-        | no z ↦ rw (set_there H i j c z) (
+        | no z ↦ rw (get_or-set_other H i j c 0 z) (
             let o = h.lends.head j x in
             record {
               below = omega (arith, o.below);
@@ -123,8 +123,8 @@ module _ (w : ℕ → ℕ) (letters : List ℕ) (n pick from : ℕ) (small : n <
       rest = λ x j y p. elim (ℕ_discrete x c) [
         | yes z ↦
             let k : j ≡ i = only j (rw z at p) in
-            rw (z, k, set_here L c (at H i) (omega (arith, h.sizes.lends, c_small))) (h.lends.head i i_small)
-        | no z ↦ rw (set_there L c x (at H i) z) (h.lends.rest x j (omega arith) p)
+            rw (z, k, get_or-set_same L c (at H i) 0 (omega (arith, h.sizes.lends, c_small))) (h.lends.head i i_small)
+        | no z ↦ rw (get_or-set_other L c x (at H i) 0 z) (h.lends.rest x j (omega arith) p)
       ];
     }
 
@@ -137,7 +137,7 @@ module _ (w : ℕ → ℕ) (letters : List ℕ) (n pick from : ℕ) (small : n <
       };
       old = λ d x y. elim (ℕ_discrete d c) [
         | yes z ↦ rw (z, here) was
-        | no z ↦ rw (set_there R c d r z) (h.old d x y)
+        | no z ↦ rw (get_or-set_other R c d r 0 z) (h.old d x y)
       ];
       over = λ d x. elim (ℕ_discrete d c) [
         | yes z ↦ rw z out
@@ -145,7 +145,7 @@ module _ (w : ℕ → ℕ) (letters : List ℕ) (n pick from : ℕ) (small : n <
       ];
       widest = λ d x y. elim (ℕ_discrete d c) [
         | yes z ↦ rw (z, here) g
-        | no z ↦ rw (set_there R c d r z) (h.widest d x (omega arith))
+        | no z ↦ rw (get_or-set_other R c d r 0 z) (h.widest d x (omega arith))
       ];
       lends = kept_lends;
     }
@@ -159,8 +159,8 @@ module _ (w : ℕ → ℕ) (letters : List ℕ) (n pick from : ℕ) (small : n <
       radii = record {
         longest = record { is = e; first = h.over };
         widest = λ x y z. elim (ℕ_discrete x c) [
-          | yes q ↦ rw (q, set_here R c r (omega (arith, h.sizes.radius)), k) (record { is = e; fits = omega arith; most = λ _ l _. l })
-          | no q ↦ rw (set_there R c x r q) (h.widest x y (omega arith))
+          | yes q ↦ rw (q, get_or-set_same R c r 0 (omega (arith, h.sizes.radius)), k) (record { is = e; fits = omega arith; most = λ _ l _. l })
+          | no q ↦ rw (get_or-set_other R c x r 0 q) (h.widest x y (omega arith))
         ];
       };
       lends = h.lends;

@@ -1,12 +1,13 @@
 -- The split that is computed from the stored row words and radii is the split named.
-use Rattle.std.specs.Prelude.{◌≡◌, true, false, List, leb}
+use Rattle.std.specs.Prelude.{◌≡◌, true, false, List}
 use Rattle.std.proofs.Math.Path.{refl}
 use Rattle.std.proofs.Common.{ap, ◌∙◌, le-leb, eq-eqb, ne_eqb}
 use Rattle.std.proofs.Math.Option.{Option, some, none}
 use Prim.Native.Nat.{ℕ, zero, suc, ◌+◌, ◌-◌, ◌/◌, ◌≤◌, ◌<◌}
 use native.Mathlib.Omega.{arith}
-use Rattle.std.proofs.Math.Decide.{dec_le, ℕ_discrete}
+use Rattle.std.proofs.Math.Decide.{ℕ_discrete}
 use Rattle.std.proofs.lemmas.Bool.{lt-leb}
+use Rattle.std.proofs.Math.Nat.{lt_of_not-le}
 use Rattle.words.specs.Definitions.{Ending, bit}
 use Rattle.words.specs.Mirror.{ending?}
 use Rattle.words.specs.Computed.{cut_last, split_of, splits, row_word}
@@ -18,9 +19,6 @@ use Rattle.models.specs.Stores.{at}
 use Rattle.models.specs.Scanning.{Radii}
 use Rattle.models.proofs.Iterating.{widest_right}
 use Rattle.models.specs.Splitting.{join_last, join_rest, starts_at, first_start, split_by}
-
-not_leb : (a b : ℕ) → (a ≤ b → ⊥) → leb a b ≡ false
-not_leb a b f = elim (dec_le a b) [ yes x ↦ absurd (f x) | no x ↦ lt-leb a b (omega arith) ]
 
 -- Where the rows and radii are right, it is the split named
 
@@ -41,7 +39,7 @@ module _ (K : ℕ) (w : ℕ → ℕ) (n s : ℕ) (rows R : List ℕ) (h : Radii 
 
   short : (k i j : ℕ) → ((i - j) / 2 ≤ radius_of R n s (i + j + 1) → ⊥) → starts_at rows R n s k i j ≡ false
   short k i j f = elim (ℕ_discrete (bit (at rows j) k) 1) [
-    | yes x ↦ simp (eq-eqb _ _ x, not_leb _ _ f)
+    | yes x ↦ simp (eq-eqb _ _ x, lt-leb _ _ (lt_of_not-le f))
     | no x ↦ simp (ne_eqb _ _ x)
   ]
 

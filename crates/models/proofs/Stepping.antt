@@ -1,13 +1,14 @@
 -- The engine's invariant: one letter more keeps it, and the row word, the visits and their count are those of `words`.
 use Rattle.std.specs.Prelude.{◌≡◌, List, ◌++◌}
 use Rattle.std.proofs.Math.Path.{sym, ap}
-use Rattle.std.proofs.Common.{subst, set, ◌∙◌, arith}
+use Rattle.std.proofs.Common.{subst, set, ◌∙◌, arith, get_or-set_same, get_or-set_other}
 use Prim.Native.Nat.{ℕ, suc, ◌+◌, ◌-◌, ◌<◌}
 use Rattle.std.proofs.Math.Decide.{ℕ_discrete}
 use Rattle.std.proofs.Math.ListN.{length, drop, length-set}
 use Rattle.std.proofs.Math.Seq.{sets-eq}
 use Rattle.std.specs.Int.Bits.{bit_or}
-use Rattle.cells.specs.Lanes.{place_entries, ByPlace}
+use Rattle.cells.specs.declared.Places.{Places}
+use Rattle.cells.specs.Lanes.{place_entries}
 use Rattle.words.specs.Definitions.{most_picks, LongestEnding}
 use Rattle.words.specs.Search.{passing_skip}
 use Rattle.words.specs.Computed.{leading?, visits, row_word, gathered, gathered_word, join_all, raised}
@@ -20,7 +21,6 @@ use Rattle.words.proofs.Prefixes.{row_as, gathered_word_as}
 use Rattle.models.specs.Centres.{LongestEndingAt}
 use Rattle.models.specs.Engine.{longest_length, Walked, walk_all, stepped}
 use Rattle.models.specs.Stores.{at}
-use Rattle.models.proofs.Stores.{set_here, set_there}
 use Rattle.models.proofs.Walking.{Tells, WalkAt, WalkRight}
 use Rattle.models.proofs.Walking.{longest_length_lem, walk_right, walk_length}
 use Rattle.models.specs.Stepping.{Gathers, Steps}
@@ -44,7 +44,7 @@ gathers_none K w {R} p q r s = record {
 }
 
 -- w has m + 1 letters or more; s is the centre of the longest ending of the first m + 1
-module _ (K : ℕ) (w : ℕ → ℕ) (m s : ℕ) (v : ByPlace) (N : List ℕ) (h : Gathers K w m v.rows v.gathered) (small : m < most_picks) (long : LongestEndingAt w (suc m) s)
+module _ (K : ℕ) (w : ℕ → ℕ) (m s : ℕ) (v : Places) (N : List ℕ) (h : Gathers K w m v.rows v.gathered) (small : m < most_picks) (long : LongestEndingAt w (suc m) s)
     (t : Tells w (suc m) N) where
   len : ℕ
   len = longest_length (suc m) s
@@ -91,12 +91,12 @@ module _ (K : ℕ) (w : ℕ → ℕ) (m s : ℕ) (v : ByPlace) (N : List ℕ) (h
           size_rows = omega (arith, length-set v.rows (suc m) x, h.size_rows);
           size_gathered = omega (arith, length-set z.gathered (suc m) x, size);
           rows = λ i l. elim (ℕ_discrete i (suc m)) [
-            | yes e ↦ subst (λ j. at (set v.rows (suc m) x) j ≡ row_word K w j) (sym e) (set_here v.rows (suc m) x (omega (arith, h.size_rows)) ∙ row_right)
-            | no e ↦ set_there v.rows (suc m) i x e ∙ h.rows i (omega arith)
+            | yes e ↦ subst (λ j. at (set v.rows (suc m) x) j ≡ row_word K w j) (sym e) (get_or-set_same v.rows (suc m) x 0 (omega (arith, h.size_rows)) ∙ row_right)
+            | no e ↦ get_or-set_other v.rows (suc m) i x 0 e ∙ h.rows i (omega arith)
           ];
           all = λ i l. elim (ℕ_discrete i (suc m)) [
-            | yes e ↦ rw e (set_here z.gathered (suc m) x (omega (arith, size)) ∙ row_right ∙ sym (gathered_own bit_or (row_word K w) w (suc m)))
-            | no e ↦ set_there z.gathered (suc m) i x e ∙ walked_right.all i (omega arith)
+            | yes e ↦ rw e (get_or-set_same z.gathered (suc m) x 0 (omega (arith, size)) ∙ row_right ∙ sym (gathered_own bit_or (row_word K w) w (suc m)))
+            | no e ↦ get_or-set_other z.gathered (suc m) i x 0 e ∙ walked_right.all i (omega arith)
           ];
         };
         row = row_right;

@@ -1,6 +1,6 @@
 -- The walk over a lend list takes those centres out of the list of endings that the new letter ended (the paper, Section 3, lines 9 to 11).
 use Rattle.std.specs.Prelude.{◌≡◌, List, length, set}
-use Rattle.std.proofs.Common.{◌∙◌, arith, length-set, lt-ltb}
+use Rattle.std.proofs.Common.{◌∙◌, arith, length-set, lt-ltb, get_or-set_same, get_or-set_other}
 use Prim.Native.Nat.{ℕ, zero, suc, ◌+◌, ◌*◌, ◌-◌, ◌/◌, ◌≤◌, ◌<◌}
 use Rattle.std.proofs.Math.Decide.{dec_lt, ℕ_discrete}
 use Rattle.cells.specs.Lanes.{centre_entries}
@@ -12,7 +12,6 @@ use Rattle.models.specs.Linked.{Linked, Fore, Aft}
 use Rattle.models.proofs.Linked.{linked_as, linked_more, linked_less}
 use Rattle.models.specs.Iterator.{reflected_radius, Links, lost_centre, unlink, unlinks, lengthened}
 use Rattle.models.specs.Stores.{at}
-use Rattle.models.proofs.Stores.{set_here, set_there}
 use Rattle.models.specs.Scanning.{LastWith, Radii, Stretches}
 use Rattle.models.proofs.Scanning.{reflected_widest}
 use Rattle.models.specs.Unlinking.{Chain, Old, Left}
@@ -41,15 +40,15 @@ lengthens {w} {n} {s} {l} small h =
       prev = length-set P₁ (2 * n + 3) (2 * n + 2) ∙ b;
       list = linked_more {N = at N₁} {P = at P₁} (2 * n + 3) (omega arith)
           (λ c q. elim (ℕ_discrete c (2 * n + 2)) [ yes x ↦ omega arith | no x ↦ omega (arith, (q x).high) ])
-          (set_here N₁ (2 * n + 2) (2 * n + 3) (omega (arith, a)))
-          (set_here P₁ (2 * n + 3) (2 * n + 2) (omega (arith, b)))
-          (λ c q. set_there N₁ (2 * n + 2) c (2 * n + 3) q)
-          (λ c q. set_there P₁ (2 * n + 3) c (2 * n + 2) q)
+          (get_or-set_same N₁ (2 * n + 2) (2 * n + 3) 0 (omega (arith, a)))
+          (get_or-set_same P₁ (2 * n + 3) (2 * n + 2) 0 (omega (arith, b)))
+          (λ c q. get_or-set_other N₁ (2 * n + 2) c (2 * n + 3) 0 q)
+          (λ c q. get_or-set_other P₁ (2 * n + 3) c (2 * n + 2) 0 q)
           (linked_more {N = at N} {P = at P} (2 * n + 2) (omega arith) (λ c q. omega (arith, q.high))
-          (set_here N (2 * n + 1) (2 * n + 2) (omega (arith, h.next)))
-          (set_here P (2 * n + 2) (2 * n + 1) (omega (arith, h.prev)))
-          (λ c q. set_there N (2 * n + 1) c (2 * n + 2) q)
-          (λ c q. set_there P (2 * n + 2) c (2 * n + 1) q)
+          (get_or-set_same N (2 * n + 1) (2 * n + 2) 0 (omega (arith, h.next)))
+          (get_or-set_same P (2 * n + 2) (2 * n + 1) 0 (omega (arith, h.prev)))
+          (λ c q. get_or-set_other N (2 * n + 1) c (2 * n + 2) 0 q)
+          (λ c q. get_or-set_other P (2 * n + 2) c (2 * n + 1) 0 q)
           h.list);
     }
 
@@ -116,10 +115,10 @@ module _ {w : ℕ → ℕ} {n s : ℕ} {R H L : List ℕ} (h : Stretches w (suc 
             ))
             (λ d m r. ((r.0, λ i. r.1 (omega (arith, g.below))), λ e. o.over (rw e at (r.1 (omega (arith, g.below))))))
             (linked_less c u (omega arith) (omega (arith, o.was.high))
-            (set_here N (at P c) (at N c) (omega (arith, z.less, o.was.high, k.next)))
-            (set_here P (at N c) (at P c) (omega (arith, v.within, k.prev)))
-            (λ d e. set_there N (at P c) d (at N c) e)
-            (λ d e. set_there P (at N c) d (at P c) e)
+            (get_or-set_same N (at P c) (at N c) 0 (omega (arith, z.less, o.was.high, k.next)))
+            (get_or-set_same P (at N c) (at P c) 0 (omega (arith, v.within, k.prev)))
+            (λ d e. get_or-set_other N (at P c) d (at N c) 0 e)
+            (λ d e. get_or-set_other P (at N c) d (at P c) 0 e)
             k.list);
       }
 

@@ -1,7 +1,7 @@
 -- The walk visits the leading endings, longest first, and leaves every gathered value right (the paper, Proposition 3).
 use Rattle.std.specs.Prelude.{◌≡◌, set}
 use Rattle.std.proofs.Math.Path.{refl, sym, ap}
-use Rattle.std.proofs.Common.{◌∙◌}
+use Rattle.std.proofs.Common.{◌∙◌, get_or-set_same, get_or-set_other}
 use mathlib.Core.List.{List, [], ◌∷◌}
 use Prim.Native.Nat.{ℕ, zero, suc, ◌+◌, ◌-◌, ◌*◌, ◌≤◌, ◌<◌}
 use native.Mathlib.Omega.{arith}
@@ -20,7 +20,6 @@ use Rattle.models.specs.Linked.{Linked}
 use Rattle.models.specs.Engine.{period_of, longest_length, Walked, walked, walk}
 use Rattle.models.proofs.Iterating.{period_right}
 use Rattle.models.specs.Stores.{at}
-use Rattle.models.proofs.Stores.{set_here, set_there}
 
 -- The length of the longest ending
 
@@ -119,15 +118,15 @@ module _ (op : ℕ → ℕ → ℕ) (r w : ℕ → ℕ) (m : ℕ) (R N : List �
         record {
           size = rw (length-set G i v) h.size;
           done = λ x b. elim (ℕ_discrete x i) [
-            | yes y ↦ rw y (set_here G i v (omega (arith, h.size)) ∙ new)
-            | no y ↦ set_there G i x v y ∙ elim (dec_lt x i) [
+            | yes y ↦ rw y (get_or-set_same G i v 0 (omega (arith, h.size)) ∙ new)
+            | no y ↦ get_or-set_other G i x v 0 y ∙ elim (dec_lt x i) [
               | yes z ↦ h.done x (omega arith)
               -- a place past this ending's start and before the next one's: no leading ending starts there
               | no z ↦ h.todo x (omega arith) (omega arith)
                   ∙ sym (gathered_kept op r w m x (omega arith) (λ c. omega (arith, (next_is L a some).most (suc m - x) c (omega arith))))
             ]
           ];
-          todo = λ x b c. set_there G i x v (λ y. omega arith) ∙ h.todo x (omega arith) c;
+          todo = λ x b c. get_or-set_other G i x v 0 (λ y. omega arith) ∙ h.todo x (omega arith) c;
         }
 
     -- the lengths from len on are len and those from the next on

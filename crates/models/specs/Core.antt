@@ -1,7 +1,9 @@
 -- Iterator and engine together: what the arrays hold, and what one pick more does to them.
 use Rattle.std.specs.Prelude.{◌≡◌, List, [], ◌∷◌, ◌++◌, length, drop, set, replicate}
 use Prim.Native.Nat.{ℕ, suc, ◌≤◌}
-use Rattle.cells.specs.Lanes.{centre_entries, place_entries, ByCentre, ByPlace, with_heads}
+use Rattle.cells.specs.declared.Centres.{Centres}
+use Rattle.cells.specs.declared.Places.{Places}
+use Rattle.cells.specs.Lanes.{centre_entries, place_entries, with_heads}
 use Rattle.words.specs.Definitions.{most_picks, most_visits, word}
 use Rattle.words.specs.Computed.{longest_centre, visits, row_word}
 use Rattle.models.specs.Iterator.{Iterator, iterator, appended}
@@ -17,14 +19,14 @@ pub record Arrays : Type 0 where
   pub rows : List ℕ
   pub gathered : List ℕ
 
--- from the lanes in which they are lent, and back
-abbrev pub arrays_in : List ℕ → ByCentre → ByPlace → ℕ → Arrays
+-- from the arrays in which they are lent, and back
+abbrev pub arrays_in : List ℕ → Centres → Places → ℕ → Arrays
 arrays_in letters v w s = record { iterator = iterator_in letters v w s; rows = w.rows; gathered = w.gathered }
 
-abbrev pub centres_in : Arrays → ByCentre
+abbrev pub centres_in : Arrays → Centres
 centres_in a = record { radius = a.iterator.radius; lends = a.iterator.lends; next = a.iterator.next; prev = a.iterator.prev }
 
-abbrev pub places_in : Arrays → ByPlace
+abbrev pub places_in : Arrays → Places
 places_in a = record { heads = a.iterator.heads; rows = a.rows; gathered = a.gathered }
 
 -- the arrays hold the draft u under K

@@ -5,7 +5,8 @@ use Rattle.std.proofs.Math.ListN.{get_or}
 use Rattle.std.specs.Prelude.{length, set}
 use Rattle.std.proofs.lemmas.List.Edits.{sets}
 use Rattle.std.specs.Int.Bits.{bit_or}
-use Rattle.cells.specs.Lanes.{ByPlace, with_rows, with_gathered}
+use Rattle.cells.specs.declared.Places.{Places}
+use Rattle.cells.specs.Lanes.{with_rows, with_gathered}
 use Rattle.words.specs.Definitions.{centre, length_at, next_leading}
 use Rattle.words.specs.Computed.{mended, raised}
 use Rattle.models.specs.Iterator.{period_at}
@@ -39,32 +40,32 @@ module _ (op : ℕ → ℕ → ℕ) (R N : List ℕ) (n : ℕ) where
       let rest : Walked = walk k (next_leading (suc x) p) (set G (n - suc x) v) (op a v) in
       walked rest.gathered rest.union (suc x ∷ rest.lengths)
 
--- the same in the lanes, with the lengths stored into the visit list vs from entry c on, and their count
+-- the same in the arrays, with the lengths stored into the visit list vs from entry c on, and their count
 pub record Seen : Type 0 where
-  pub placed : ByPlace
+  pub placed : Places
   pub union : ℕ
   pub visits : List ℕ
   pub count : ℕ
 
-abbrev pub seen_as : ByPlace → ℕ → List ℕ → ℕ → Seen
+abbrev pub seen_as : Places → ℕ → List ℕ → ℕ → Seen
 seen_as w a vs c = record { placed = w; union = a; visits = vs; count = c }
 
-abbrev pub seen : ByPlace → Walked → List ℕ → ℕ → Seen
+abbrev pub seen : Places → Walked → List ℕ → ℕ → Seen
 seen w z vs c =
     seen_as (with_gathered w z.gathered) z.union (sets vs c z.lengths) (c + length z.lengths)
 
 -- after a pick
 pub record Stepped : Type 0 where
-  pub placed : ByPlace
+  pub placed : Places
   pub visits : List ℕ
   pub row : ℕ
   pub count : ℕ
 
-abbrev pub stepped_as : ByPlace → List ℕ → ℕ → ℕ → Stepped
+abbrev pub stepped_as : Places → List ℕ → ℕ → ℕ → Stepped
 stepped_as w vs row c = record { placed = w; visits = vs; row = row; count = c }
 
 -- x is the row word and the gathered word of place n
-abbrev pub worded : ByPlace → ℕ → ℕ → ByPlace
+abbrev pub worded : Places → ℕ → ℕ → Places
 worded w n x = with_gathered (with_rows w (set w.rows n x)) (set w.gathered n x)
 
 -- the new place n gets its row word, which is its gathered word too
@@ -76,6 +77,6 @@ unfoldable pub walk_all : ℕ → ℕ → List ℕ → List ℕ → List ℕ →
 unfolding walk
 walk_all n s R N G = walk bit_or R N n (longest_length n s) (longest_length n s) G 0
 
-unfoldable pub stepped : ℕ → ℕ → ℕ → ByPlace → List ℕ → List ℕ → Stepped
+unfoldable pub stepped : ℕ → ℕ → ℕ → Places → List ℕ → List ℕ → Stepped
 unfolding walk_all
 stepped K n s w N vs = closed K n (seen w (walk_all n s w.rows N w.gathered) vs 0)

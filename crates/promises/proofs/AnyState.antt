@@ -22,7 +22,6 @@ use Rattle.promises.specs.declared.Draft.{Draft}
 use Rattle.promises.specs.Answers.{refused, Reply, reply}
 use Rattle.promises.specs.Book.{Query, ask, split, longest, mask, radius, next, fold, lift, lent}
 use Rattle.promises.specs.Replies.{unless, or_no_split, or_no_ending, or_too_long, gives, split_reply, record_reply, refusal_of}
-use Rattle.promises.specs.State.{numbers_of}
 use Rattle.promises.proofs.BookLaws.{unless_zero, unless_not}
 use Rattle.promises.specs.Promises.{mask_byte, split_held, found_in, computed_to, Reads}
 use Rattle.promises.specs.Demands.{Accepted, NextRight, NextHolds, EndsRight, SplitHolds, RecordRight, RecordHolds, LongestHolds}
@@ -32,23 +31,23 @@ use Rattle.promises.proofs.Keeping.{said_is}
 -- an accepted call gives what is found
 found : (d : Draft) (q : Query) (r : Reply) → Reads d q r → Accepted r.said → r ≡ found_in d q
 unfolding computed_to
-found d q r p ok = elim (ℕ_discrete (refusal_of d.n d.k (ask q)) 0) [
+found d q r p ok = elim (ℕ_discrete (refusal_of d.numbers.n d.numbers.k (ask q)) 0) [
   | yes z ↦ p.computes ∙ unless_zero _ (lent (ask q)) _ z
   | no z ↦ absurd (ok _ (inl (said_is (p.computes ∙ unless_not _ (lent (ask q)) _ z))))
 ]
 
 module _ (d : Draft) (c : ℕ) (r : Reply) (ok : Accepted r.said) where
   abbrev passes : Bool
-  passes = is_ending d.radius d.n (longest_of d.n d.longest.0) c
+  passes = is_ending d.centres.radius d.numbers.n (longest_of d.numbers.n d.numbers.longest.0) c
 
-  next_fits : (b : Bool) → passes ≡ b → r.said ≡ or_no_ending (cond b (some (shorter_by d.next d.n c)) none) → NextRight d.n c r.said
+  next_fits : (b : Bool) → passes ≡ b → r.said ≡ or_no_ending (cond b (some (shorter_by d.centres.next d.numbers.n c)) none) → NextRight d.numbers.n c r.said
   next_fits false e q = absurd (ok 10 (inl q))
   next_fits true e q =
-      let high = ending_high d.radius d.n (longest_of d.n d.longest.0) c e in
-      let x : ℕ = period_at d.next c (length_at d.n c) in
+      let high = ending_high d.centres.radius d.numbers.n (longest_of d.numbers.n d.numbers.longest.0) c e in
+      let x : ℕ = period_at d.centres.next c (length_at d.numbers.n c) in
       record {
         to = c + x;
-        len = length_at d.n c;
+        len = length_at d.numbers.n c;
         p = x;
         says = q;
         own = refl;
@@ -68,7 +67,7 @@ split_holds d i k before r p ok = go (split_held d k i) refl (found d (split i k
     go : (o : Option (List ℕ)) → split_held d k i ≡ o → r ≡ split_reply o before → EndsRight i k before r
     go none e q = absurd (ok 9 (inl (said_is q)))
     go (some ends) e q =
-        let h = split_ends d.rows d.radius d.n (longest_of d.n d.longest.0) k i ends e in
+        let h = split_ends d.places.rows d.centres.radius d.numbers.n (longest_of d.numbers.n d.numbers.longest.0) k i ends e in
         record { ends = ends; count = h.0; rising = h.1; is = q }
 
 pub record_holds : RecordHolds
@@ -82,7 +81,7 @@ record_holds d i k before r p ok = go (split_held d k i) refl (found d (fold i k
         → split_held d k i ≡ some ends → RecordRight w i k before r
     fits ends false l q e = let x : r ≡ reply (refused 5) before = q ∙ simp l in absurd (ok 5 (inl (said_is x)))
     fits ends true l q e =
-        let h = split_ends d.rows d.radius d.n (longest_of d.n d.longest.0) k i ends e in
+        let h = split_ends d.places.rows d.centres.radius d.numbers.n (longest_of d.numbers.n d.numbers.longest.0) k i ends e in
         record { ends = ends; count = h.0; rising = h.1; fits = leb-true _ _ l; is = q ∙ simp l }
 
     go : (o : Option (List ℕ)) → split_held d k i ≡ o → r ≡ record_reply w i o before → RecordRight w i k before r
@@ -92,7 +91,7 @@ record_holds d i k before r p ok = go (split_held d k i) refl (found d (fold i k
 pub longest_holds : LongestHolds
 unfolding found_in
 longest_holds d r p ok = record {
-  c = longest_of d.n d.longest.0;
+  c = longest_of d.numbers.n d.numbers.longest.0;
   says = said_is (found d longest r p ok);
   within = record { low = omega arith; high = omega arith };
 }
@@ -100,16 +99,16 @@ longest_holds d r p ok = record {
 -- What each may read
 
 -- other row words, alike below place i: the search reads no others
-split_rows : (d : Draft) (rows : List ℕ) (k i : ℕ) → ((j : ℕ) → j < i → at d.rows j ≡ at rows j) → split_held d k i ≡ split_held (other_rows d rows) k i
-split_rows d rows k i f = split_alike d.rows rows d.radius d.n (longest_of d.n d.longest.0) k i f
+split_rows : (d : Draft) (rows : List ℕ) (k i : ℕ) → ((j : ℕ) → j < i → at d.places.rows j ≡ at rows j) → split_held d k i ≡ split_held (other_rows d rows) k i
+split_rows d rows k i f = split_alike d.places.rows rows d.centres.radius d.numbers.n (longest_of d.numbers.n d.numbers.longest.0) k i f
 
-row_to : (d : Draft) (i j : ℕ) → j ≤ i → at d.rows j ≡ at (rows_to i d) j
-row_to d i j l = sym (get_or-take (prefixes_to i) d.rows j 0 (omega arith))
+row_to : (d : Draft) (i j : ℕ) → j ≤ i → at d.places.rows j ≡ at (rows_to i d) j
+row_to d i j l = sym (get_or-take (prefixes_to i) d.places.rows j 0 (omega arith))
 
 split_to : (d : Draft) (k i : ℕ) → split_held d k i ≡ split_held (other_rows d (rows_to i d)) k i
 split_to d k i = split_rows d (rows_to i d) k i (λ j l. row_to d i j (omega arith))
 
-found_from : (d : Draft) (q : Query) → found_in d q ≡ found_in (state_from (numbers_of d) (parts_for d q)) q
+found_from : (d : Draft) (q : Query) → found_in d q ≡ found_in (state_from d.numbers (parts_for d q)) q
 unfolding found_in
 found_from d (split i k list) = ap (λ o. split_reply o list) (split_to d k i)
 found_from d longest = refl
@@ -121,13 +120,13 @@ found_from d (lift letter) = refl
 
 pub parts_hold : PartsHold
 unfolding reply_from computed_to
-parts_hold d q r p = p.computes ∙ ap (unless (refusal_of d.n d.k (ask q)) (lent (ask q))) (found_from d q)
+parts_hold d q r p = p.computes ∙ ap (unless (refusal_of d.numbers.n d.numbers.k (ask q)) (lent (ask q))) (found_from d q)
 
 pub split_same : SplitAlike
 unfolding computed_to found_in
 split_same d e i k before r s h p q =
-    let number : ℕ = refusal_of d.n d.k (ask (split i k before)) in
+    let number : ℕ = refusal_of d.numbers.n d.numbers.k (ask (split i k before)) in
     p.computes
-    ∙ ap (λ o. unless number before (split_reply o before)) (split_rows d e.rows k i (λ j l. h.rows j (omega arith)))
+    ∙ ap (λ o. unless number before (split_reply o before)) (split_rows d e.places.rows k i (λ j l. h.rows j (omega arith)))
     ∙ ap (λ x. computed_to x (split i k before)) (sym h.others)
     ∙ sym q.computes

@@ -1,8 +1,9 @@
 -- The order of tests and the book: a call has the number 0 exactly where the book takes it, and what it replies under a number.
-use Rattle.std.specs.Prelude.{◌≡◌, Bool, true, false, cond, ◌&&◌, ◌≢◌, List, [], ◌∷◌, eqb, leb, ltb, length}
+use Rattle.std.specs.Prelude.{◌≡◌, Bool, true, false, cond, ◌&&◌, ◌≢◌, List, [], eqb, leb, ltb, length}
 use Rattle.std.proofs.Math.Path.{refl}
 use Rattle.std.proofs.Math.Bool.{and-eq-true_iff}
 use Rattle.std.proofs.Common.{inl, inr, arith, le-leb, eqb-true}
+use Rattle.std.proofs.lemmas.List.{nil_from_length}
 use Prim.Native.Nat.{ℕ, zero, suc, ◌≤◌}
 use Rattle.words.specs.Definitions.{most_picks, most_sections, most_visits, first_letter, last_letter}
 use Rattle.words.specs.Ranges.{between}
@@ -56,15 +57,11 @@ pub letter_cases : (b : Book) (name : ℕ) → length b.row ≤ most_picks → 1
 unfolding letter_refusal
 letter_cases b name x y z = rw (passes7 (length b.row) b.K _ x y z) (one_case (between first_letter last_letter name) 1)
 
-pub none_left : (list : List ℕ) → length list ≡ 0 → list ≡ []
-none_left [] e = refl
-none_left (x ∷ list) e = absurd (omega arith)
-
 -- a load is taken while the row is empty
 pub empty_taken : (b : Book) (lifts : List ℕ) → load_taken b lifts ≡ true → b.row ≡ []
 empty_taken b lifts t =
     let r = ((and-eq-true_iff (eqb (length lifts) table_size) (none_zero lifts && eqb (length b.row) 0)).0 t).1 in
-    none_left b.row (eqb-true _ _ ((and-eq-true_iff (none_zero lifts) (eqb (length b.row) 0)).0 r).1)
+    nil_from_length b.row (eqb-true _ _ ((and-eq-true_iff (none_zero lifts) (eqb (length b.row) 0)).0 r).1)
 
 -- A reply under a number, however it is said
 

@@ -10,13 +10,7 @@ use lib.Seq.{length-take-le}
 use borrow.Author.Tests.{eq-eqb}
 use Rattle.models.specs.Core.{After, append}
 use Rattle.promises.specs.declared.Draft.{Draft}
-use Rattle.promises.specs.declared.Started.{Started}
-use Rattle.promises.specs.declared.Fed.{Fed}
-use Rattle.promises.specs.declared.Loaded.{Loaded}
-use Rattle.promises.specs.declared.MarkAnswer.{MarkAnswer}
-use Rattle.promises.specs.declared.MarkAnswer.TheVariants.{Done, Refused as MarkRefused}
-use Rattle.promises.specs.declared.Marked.{Marked}
-use Rattle.promises.specs.Answers.{gave, refused, refused_at, Under, Reply, reply, start_says, feed_says, load_says, mark_says}
+use Rattle.promises.specs.Answers.{gave, refused, refused_at, Under, Reply, reply, done_says, feed_says, Changed, Fed}
 use Rattle.promises.specs.Refusals.{start_refusal, feed_refusal, load_refusal, show_refusal, letter_refusal}
 use Rattle.promises.specs.Lifts.{lift_in}
 use Rattle.promises.specs.Marks.{mark_at, is_mark, room_for}
@@ -63,17 +57,17 @@ module _ {number : ℕ} {call : Call} {r : Reply} (h : ByNumber number call r) w
     | no f ↦ ap (λ y. y.list) (by_refused f)
   ]
 
-start_numbered : {d : Draft} {K : ℕ} {r : Started} → StartPromise d K r
-    → ByNumber (refusal_of d.n d.k (start K)) (start K) (reply (start_says r.answer) [])
+start_numbered : {d : Draft} {K : ℕ} {r : Changed} → StartPromise d K r
+    → ByNumber (refusal_of d.numbers.n d.numbers.k (start K)) (start K) (reply (done_says r.answer) [])
 unfolding reply_to refusal_of lent found_for sought
 start_numbered p = record { found = gives []; is = p.says blank; only = gave_only [] [] [] [] }
 
-query_numbered : {d : Draft} {q : Query} {r : Reply} → Reads d q r → ByNumber (refusal_of d.n d.k (ask q)) (ask q) r
+query_numbered : {d : Draft} {q : Query} {r : Reply} → Reads d q r → ByNumber (refusal_of d.numbers.n d.numbers.k (ask q)) (ask q) r
 unfolding computed_to
 query_numbered {d} {q} p = record { found = found_in d q; is = p.computes; only = found_only d q }
 
 feed_numbered : {d : Draft} {pick : ℕ} {before : List ℕ} {r : Fed} {after : List ℕ} → FeedPromise d pick before r after
-    → ByNumber (refusal_of d.n d.k (feed pick before)) (feed pick before) (reply (feed_says r.answer) after)
+    → ByNumber (refusal_of d.numbers.n d.numbers.k (feed pick before)) (feed pick before) (reply (feed_says r.answer) after)
 unfolding refusal_of lent sought
 feed_numbered {d} {pick} {before} {r} {after} p = record {
   found = reply (gave values) z.visits;
@@ -85,16 +79,16 @@ feed_numbered {d} {pick} {before} {r} {after} p = record {
 }
   where
     number : ℕ
-    number = feed_refusal d.n d.k pick (length before)
+    number = feed_refusal d.numbers.n d.numbers.k pick (length before)
 
     z : After
-    z = append d.k d.n (code_in d pick) (arrays_of d) before
+    z = append d.numbers.k d.numbers.n (code_in d pick) (arrays_of d) before
 
     values : List ℕ
     values = mask_byte z.row ∷ z.count ∷ []
 
-load_numbered : {d : Draft} {lifts : List ℕ} {r : Loaded} → LoadPromise d lifts r
-    → ByNumber (refusal_of d.n d.k (load lifts)) (load lifts) (reply (load_says r.answer) [])
+load_numbered : {d : Draft} {lifts : List ℕ} {r : Changed} → LoadPromise d lifts r
+    → ByNumber (refusal_of d.numbers.n d.numbers.k (load lifts)) (load lifts) (reply (done_says r.answer) [])
 unfolding refusal_of lent sought
 load_numbered {d} {lifts} p = record {
   found = gives [];
@@ -106,21 +100,21 @@ load_numbered {d} {lifts} p = record {
 }
   where
     number : ℕ
-    number = load_refusal d.n d.k lifts
+    number = load_refusal d.numbers.n d.numbers.k lifts
 
-mark_numbered : {d : Draft} {name : ℕ} {r : Marked} → MarkPromise d name r
-    → ByNumber (refusal_of d.n d.k (mark name)) (mark name) (reply (mark_says r.answer) [])
+mark_numbered : {d : Draft} {name : ℕ} {r : Changed} → MarkPromise d name r
+    → ByNumber (refusal_of d.numbers.n d.numbers.k (mark name)) (mark name) (reply (done_says r.answer) [])
 unfolding lent sought
 mark_numbered {d} {name} p =
     record { found = reply (or_fifth_name (marks_of d) name) []; is = p.computes; only = marks_only (room_for (marks_of d) name) 18 }
 
-back_numbered : {d : Draft} {name : ℕ} {r : Marked} → BackPromise d name r
-    → ByNumber (refusal_of d.n d.k (back name)) (back name) (reply (mark_says r.answer) [])
+back_numbered : {d : Draft} {name : ℕ} {r : Changed} → BackPromise d name r
+    → ByNumber (refusal_of d.numbers.n d.numbers.k (back name)) (back name) (reply (done_says r.answer) [])
 unfolding lent sought
 back_numbered {d} {name} p =
     record { found = reply (or_no_mark (marks_of d) name) []; is = p.computes; only = marks_only (is_mark (mark_at (marks_of d) name)) 17 }
 
-numbered : (d : Draft) (m : Made) → Meets d m → ByNumber (refusal_of d.n d.k (call_of m)) (call_of m) (reply_of m)
+numbered : (d : Draft) (m : Made) → Meets d m → ByNumber (refusal_of d.numbers.n d.numbers.k (call_of m)) (call_of m) (reply_of m)
 unfolding Meets reply_of call_of
 numbered d (started K r) p = start_numbered p
 numbered d (fed pick before r after) p = feed_numbered p
@@ -129,12 +123,6 @@ numbered d (marked name r) p = mark_numbered p
 numbered d (returned name r) p = back_numbered p
 numbered d (asked q r) p = query_numbered p
 
--- mark and back name no place
-mark_plain : (answer : MarkAnswer) (number : ℕ) → Under (mark_says answer) number → mark_says answer ≡ refused number
-mark_plain Done number e = absurd (gave_accepted refl number e)
-mark_plain (MarkRefused x) number (inl e) = e
-mark_plain (MarkRefused x) number (inr e) = absurd (no_place e.1)
-
 -- a refused call leaves the state
 state_kept : (d : Draft) (m : Made) → Meets d m → (number : ℕ) → Under (reply_of m).said number → leaves d m ≡ d
 unfolding Meets reply_of leaves reply_to refusal_of lent found_for
@@ -142,8 +130,8 @@ state_kept d (started K r) p number e =
     p.refuses (λ z. gave_accepted (said_is (p.says blank ∙ unless_zero (start_refusal K) [] _ z)) number e)
 state_kept d (fed pick before r after) p number e = (p.refuses (λ z. gave_accepted (p.computes z).says number e)).1
 state_kept d (loaded lifts r) p number e = (p.refuses (λ z. gave_accepted (p.computes z).0 number e)).1
-state_kept d (marked name r) p number e = p.refuses number (mark_plain r.answer number e)
-state_kept d (returned name r) p number e = p.refuses number (mark_plain r.answer number e)
+state_kept d (marked name r) p number e = p.refuses number e
+state_kept d (returned name r) p number e = p.refuses number e
 state_kept d (asked q r) p number e = refl
 
 pub demand1 : Demand1Holds
@@ -155,21 +143,21 @@ demand1 d m p = record {
 }
   where
     ls : List Line
-    ls = listed d.n d.k (call_of m)
+    ls = listed d.numbers.n d.numbers.k (call_of m)
 
-    tested : Tested ls (refusal_of d.n d.k (call_of m))
-    tested = listed_tested d.n d.k (call_of m)
+    tested : Tested ls (refusal_of d.numbers.n d.numbers.k (call_of m))
+    tested = listed_tested d.numbers.n d.numbers.k (call_of m)
 
-    refuses : (number : ℕ) → First ls number → Tested ls (refusal_of d.n d.k (call_of m)) → Under (reply_of m).said number
+    refuses : (number : ℕ) → First ls number → Tested ls (refusal_of d.numbers.n d.numbers.k (call_of m)) → Under (reply_of m).said number
     refuses number f (hit g z) = subst (λ x. Under (reply_of m).said x) (first_one ls g f) (by_refuses (numbered d m p) z)
     refuses number f (clear g z) = absurd (first_none ls number f g)
 
-    places : (number place : ℕ) → Tested ls (refusal_of d.n d.k (call_of m))
+    places : (number place : ℕ) → Tested ls (refusal_of d.numbers.n d.numbers.k (call_of m))
         → ((reply_of m).said ≡ refused_at number place) ↔ (First ls number × PlaceOf (call_of m) number place)
     places number place (hit g z) =
         let e = ap (λ x. x.said) (by_refused (numbered d m p) z) in
-        let a = refusal_at (call_of m) (refusal_of d.n d.k (call_of m))
-        (λ lifts q y. zero_met d.n d.k lifts (rw q at (subst (First (listed d.n d.k (call_of m))) y g))) number place in (
+        let a = refusal_at (call_of m) (refusal_of d.numbers.n d.numbers.k (call_of m))
+        (λ lifts q y. zero_met d.numbers.n d.numbers.k lifts (rw q at (subst (First (listed d.numbers.n d.numbers.k (call_of m))) y g))) number place in (
           λ q. let t = a.0 (sym e ∙ q) in (subst (First ls) (sym t.0) g, t.1),
           λ q. e ∙ a.1 (first_one ls q.0 g, q.1),
         )
@@ -178,7 +166,7 @@ demand1 d m p = record {
       λ q. absurd (first_none ls number q.0 g),
     )
 
-    otherwise : NoneMet ls → (number : ℕ) → Under (reply_of m).said number → Tested ls (refusal_of d.n d.k (call_of m))
+    otherwise : NoneMet ls → (number : ℕ) → Under (reply_of m).said number → Tested ls (refusal_of d.numbers.n d.numbers.k (call_of m))
         → Memᴰ number (sought_numbers (call_of m))
     otherwise f number e (hit g z) = absurd (first_none ls _ g f)
     otherwise f number e (clear g z) = (by_found (numbered d m p) z number e).2
@@ -201,7 +189,7 @@ module _ (letters ends : List ℕ) (s : ℕ) {part : List ℕ} (p : ShowPromise 
   show_gives : show_refusal letters ends s ≡ 0 → PartOf letters ends s part
   unfolding shown section_of
   show_gives z =
-      let f = part_fits letters ends s 0 (sym z) (omega arith) in
+      let f = part_fits letters ends s z in
       let a : ℕ = get_or (0 ∷ ends) (s - 1) 0 in
       let len : ℕ = get_or (0 ∷ ends) s 0 - a in
       let rest : List ℕ = drop a letters in
@@ -244,13 +232,13 @@ show_holds letters ends s lent at part number p w q = go (show_tested letters en
 
 pub lift_holds : LiftHolds
 unfolding computed_to found_in refusal_of
-lift_holds d letter r p = go (listed_tested d.n d.k (ask (lift letter)))
+lift_holds d letter r p = go (listed_tested d.numbers.n d.numbers.k (ask (lift letter)))
   where
     ls : List Line
-    ls = listed d.n d.k (ask (lift letter))
+    ls = listed d.numbers.n d.numbers.k (ask (lift letter))
 
     number : ℕ
-    number = letter_refusal d.n d.k letter
+    number = letter_refusal d.numbers.n d.numbers.k letter
 
     go : Tested ls number → LiftRight d letter r.said
     go (hit g f) = let e : r.said ≡ refused number = said_is (p.computes ∙ unless_not number [] _ f) in record {

@@ -21,11 +21,7 @@ use Rattle.words.proofs.Splits.{Splitting, given, lacking, split_law}
 use Rattle.models.proofs.Core.{means}
 use Rattle.models.proofs.Centres.{longest_centre_at}
 use Rattle.promises.specs.declared.Draft.{Draft}
-use Rattle.promises.specs.declared.Started.{Started}
-use Rattle.promises.specs.declared.Fed.{Fed}
-use Rattle.promises.specs.declared.Loaded.{Loaded}
-use Rattle.promises.specs.declared.Marked.{Marked}
-use Rattle.promises.specs.Answers.{Said, gave, refused, refused_at, Under, Reply, reply, start_says, feed_says, load_says, mark_says}
+use Rattle.promises.specs.Answers.{Said, gave, refused, refused_at, Under, Reply, reply, done_says, feed_says, Changed, Fed}
 use Rattle.promises.specs.Refusals.{start_refusal, load_refusal, split_refusal, centre_refusal, longest_refusal}
 use Rattle.promises.specs.Lifts.{lift_in}
 use Rattle.promises.proofs.LiftLaws.{lifted_length, lifted_more}
@@ -152,23 +148,23 @@ visits_right {d} {b} {pick} {before} {r} {after} h p ok =
 
 -- Starts and loads
 
-start_accepted : {d : Draft} {K : ℕ} {r : Started} → StartPromise d K r → Accepted (start_says r.answer) ↔ (start_taken K ≡ true)
+start_accepted : {d : Draft} {K : ℕ} {r : Changed} → StartPromise d K r → Accepted (done_says r.answer) ↔ (start_taken K ≡ true)
 unfolding reply_to refusal_of lent found_for
 start_accepted {d} {K} {r} p = go (start_cases K)
   where
-    go : Case (start_taken K) (start_refusal K) → Accepted (start_says r.answer) ↔ (start_taken K ≡ true)
+    go : Case (start_taken K) (start_refusal K) → Accepted (done_says r.answer) ↔ (start_taken K ≡ true)
     go (taken t z) = (λ _. t, λ _. gave_accepted (said_is (p.says blank ∙ unless_zero (start_refusal K) [] _ z)))
     go (left t z) = (λ ok. absurd (ok _ (inl (said_is (p.says blank ∙ unless_not (start_refusal K) [] _ z)))), λ y. absurd (true_false y t))
 
-load_accepted : {d : Draft} {b : Book} {lifts : List ℕ} {r : Loaded} → Holds d b → LoadPromise d lifts r
-    → Accepted (load_says r.answer) ↔ (load_taken b lifts ≡ true)
+load_accepted : {d : Draft} {b : Book} {lifts : List ℕ} {r : Changed} → Holds d b → LoadPromise d lifts r
+    → Accepted (done_says r.answer) ↔ (load_taken b lifts ≡ true)
 load_accepted {d} {b} {lifts} {r} h p = go (load_case h lifts)
   where
-    go : Case (load_taken b lifts) (load_refusal (length b.row) b.K lifts) → Accepted (load_says r.answer) ↔ (load_taken b lifts ≡ true)
+    go : Case (load_taken b lifts) (load_refusal (length b.row) b.K lifts) → Accepted (done_says r.answer) ↔ (load_taken b lifts ≡ true)
     go (taken t z) = (λ _. t, λ _. gave_accepted (p.computes (load_number h lifts ∙ z)).0)
     go (left t z) =
-        let n : ℕ = load_refusal d.n d.k lifts in
-        let u : Under (load_says r.answer) n = subst (λ s. Under s n) (sym (p.refuses (λ q. z (sym (load_number h lifts) ∙ q))).0) (refusal_under (load lifts) n) in
+        let n : ℕ = load_refusal d.numbers.n d.numbers.k lifts in
+        let u : Under (done_says r.answer) n = subst (λ s. Under s n) (sym (p.refuses (λ q. z (sym (load_number h lifts) ∙ q))).0) (refusal_under (load lifts) n) in
         (λ ok. absurd (ok n u), λ y. absurd (true_false y t))
 
 -- Marks and going back: s tells a name A to Z, t what the marks say
@@ -185,14 +181,14 @@ marking_accepted s t {number} x {said} (taken e z) p = rw e (go t (p ∙ unless_
     go true q = (λ _. refl, λ _. gave_accepted (said_is q))
     go false q = (λ ok. absurd (ok x (inl (said_is q))), λ y. absurd (false≢true y))
 
-pub mark_accepted : {d : Draft} {b : Book} {name : ℕ} {r : Marked} → Holds d b → MarkPromise d name r
-    → Accepted (mark_says r.answer) ↔ (mark_taken b name ≡ true)
+pub mark_accepted : {d : Draft} {b : Book} {name : ℕ} {r : Changed} → Holds d b → MarkPromise d name r
+    → Accepted (done_says r.answer) ↔ (mark_taken b name ≡ true)
 unfolding reply_to refusal_of lent found_for
 mark_accepted {b = b} {name = name} h p =
     marking_accepted (between first_letter last_letter name) (room_for b.marks name) 18 (letter_case h name) (p.meaning b h).replies
 
-pub back_accepted : {d : Draft} {b : Book} {name : ℕ} {r : Marked} → Holds d b → BackPromise d name r
-    → Accepted (mark_says r.answer) ↔ (back_taken b name ≡ true)
+pub back_accepted : {d : Draft} {b : Book} {name : ℕ} {r : Changed} → Holds d b → BackPromise d name r
+    → Accepted (done_says r.answer) ↔ (back_taken b name ≡ true)
 unfolding reply_to refusal_of lent found_for
 back_accepted {b = b} {name = name} h p =
     marking_accepted (between first_letter last_letter name) (is_mark (mark_at b.marks name)) 17 (letter_case h name) (p.meaning b h).replies

@@ -10,8 +10,7 @@ use borrow.Author.Tests.{ltb-true}
 use Rattle.words.proofs.Cases.{true_false}
 use Rattle.words.specs.Definitions.{most_picks, most_visits, first_letter, last_letter}
 use Rattle.promises.specs.declared.Draft.{Draft}
-use Rattle.promises.specs.declared.Fed.{Fed}
-use Rattle.promises.specs.Answers.{gave, reply, feed_says, filled}
+use Rattle.promises.specs.Answers.{gave, reply, feed_says, filled, Fed}
 use Rattle.promises.specs.Refusals.{feed_refusal}
 use Rattle.words.specs.Ranges.{between}
 use Rattle.promises.specs.Book.{Book, fed_book, lent, feed_taken, write}

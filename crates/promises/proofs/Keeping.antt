@@ -13,11 +13,7 @@ use Rattle.words.specs.Ranges.{between, between_true}
 use Rattle.layout.specs.Layout.{Every, none, Letter}
 use Rattle.layout.proofs.Entries.{every_snoc, every_take}
 use Rattle.promises.specs.declared.Draft.{Draft}
-use Rattle.promises.specs.declared.Started.{Started}
-use Rattle.promises.specs.declared.Fed.{Fed}
-use Rattle.promises.specs.declared.Loaded.{Loaded}
-use Rattle.promises.specs.declared.Marked.{Marked}
-use Rattle.promises.specs.Answers.{Said, gave, reply}
+use Rattle.promises.specs.Answers.{Said, gave, reply, Changed, Fed}
 use Rattle.promises.specs.Refusals.{start_refusal}
 use Rattle.promises.specs.Marks.{mark_at, mark_length}
 use Rattle.promises.specs.Book.{Book, started_book, fed_book, loaded_book, marked_book, back_book, Call, start, feed, load, mark, back, ask, blank, start_taken, feed_taken, load_taken, mark_taken, back_taken, write, write_all, book_of}
@@ -125,7 +121,7 @@ letters_of b (ask q ∷ cs) h = letters_of b cs h
 
 -- A run that opens with an accepted start
 
-module _ {d : Draft} {K : ℕ} {r : Started} {ms : List Made} (o : Opened d K r ms) where
+module _ {d : Draft} {K : ℕ} {r : Changed} {ms : List Made} (o : Opened d K r ms) where
   pub promise : StartPromise d K r
   unfolding Run Meets
   promise = o.run.0
@@ -151,13 +147,13 @@ module _ {d : Draft} {K : ℕ} {r : Started} {ms : List Made} (o : Opened d K r 
   unfolding Run last leaves write_all call_of
   whole = kept ms o.run.1 (opened blank)
 
-  pub start_met : (xs ys : List Made) {k : ℕ} {x : Started} → started K r ∷ ms ≡ xs ++ started k x ∷ ys → StartPromise (last d xs) k x
+  pub start_met : (xs ys : List Made) {k : ℕ} {x : Changed} → started K r ∷ ms ≡ xs ++ started k x ∷ ys → StartPromise (last d xs) k x
   unfolding Meets
   start_met xs ys {k} {x} e = (upto d xs ys (started k x) (rw e at o.run)).1
 
 -- and before each call among them
 
-module _ {d : Draft} {K : ℕ} {r : Started} {ms : List Made} (o : Opened d K r ms) where
+module _ {d : Draft} {K : ℕ} {r : Changed} {ms : List Made} (o : Opened d K r ms) where
   opened_at : (m : Made) (xs : List Made) → m ≡ started K r → Run d (m ∷ xs) → Holds (last d (m ∷ xs)) (book_of (calls (m ∷ xs)))
   opened_at m xs e t =
       subst (λ y. Run d (y ∷ xs) → Holds (last d (y ∷ xs)) (book_of (calls (y ∷ xs)))) (sym e)
@@ -196,10 +192,10 @@ module _ {d : Draft} {K : ℕ} {r : Started} {ms : List Made} (o : Opened d K r 
     unfolding Meets
     feed_met = (met_at xs f.rest (fed pick before x after) fed_not f.is).1
 
-  loaded_not : {lifts : List ℕ} {x : Loaded} → loaded lifts x ≡ started K r → ⊥
+  loaded_not : {lifts : List ℕ} {x : Changed} → loaded lifts x ≡ started K r → ⊥
   loaded_not {lifts} {x} e = clash cc
 
-  module _ (xs ys : List Made) (lifts : List ℕ) (x : Loaded) (f : started K r ∷ ms ≡ xs ++ loaded lifts x ∷ ys) where
+  module _ (xs ys : List Made) (lifts : List ℕ) (x : Changed) (f : started K r ∷ ms ≡ xs ++ loaded lifts x ∷ ys) where
     pub holds_at_load : Holds (last d xs) (book_of (calls xs))
     holds_at_load = (met_at xs ys (loaded lifts x) loaded_not f).0
 
@@ -207,18 +203,18 @@ module _ {d : Draft} {K : ℕ} {r : Started} {ms : List Made} (o : Opened d K r 
     unfolding Meets
     load_met = (met_at xs ys (loaded lifts x) loaded_not f).1
 
-  marked_not : {name : ℕ} {x : Marked} → marked name x ≡ started K r → ⊥
+  marked_not : {name : ℕ} {x : Changed} → marked name x ≡ started K r → ⊥
   marked_not {name} {x} e = clash cc
 
-  pub mark_met : (xs ys : List Made) (name : ℕ) (x : Marked) → started K r ∷ ms ≡ xs ++ marked name x ∷ ys
+  pub mark_met : (xs ys : List Made) (name : ℕ) (x : Changed) → started K r ∷ ms ≡ xs ++ marked name x ∷ ys
       → Holds (last d xs) (book_of (calls xs)) × MarkPromise (last d xs) name x
   unfolding Meets
   mark_met xs ys name x f = met_at xs ys (marked name x) marked_not f
 
-  returned_not : {name : ℕ} {x : Marked} → returned name x ≡ started K r → ⊥
+  returned_not : {name : ℕ} {x : Changed} → returned name x ≡ started K r → ⊥
   returned_not {name} {x} e = clash cc
 
-  pub back_met : (xs ys : List Made) (name : ℕ) (x : Marked) → started K r ∷ ms ≡ xs ++ returned name x ∷ ys
+  pub back_met : (xs ys : List Made) (name : ℕ) (x : Changed) → started K r ∷ ms ≡ xs ++ returned name x ∷ ys
       → Holds (last d xs) (book_of (calls xs)) × BackPromise (last d xs) name x
   unfolding Meets
   back_met xs ys name x f = met_at xs ys (returned name x) returned_not f

@@ -1,74 +1,69 @@
 -- How the calls on lent parts meet their promises: refused under their number, or accepted with what was read.
-use Rattle.std.specs.Prelude.{◌≡◌, refl, Bool, true, false, ◌&&◌, List, [], ◌∷◌, ◌++◌, ℕ, ◌≤◌, ◌<◌, leb, eqb, length, take}
+use Rattle.std.specs.Prelude.{◌≡◌, refl, Bool, true, false, List, [], ◌∷◌, ℕ, ◌≤◌, ◌<◌, ◌≢◌, Result, Ok, Err, IsErrAnd, length, take}
 use Rattle.std.proofs.Math.Path.{sym, ap, ap₂}
-use Rattle.std.proofs.Common.{subst, ◌∙◌, true≢false, append-nil, arith, drop_of_length-le, take_at, ne_eqb}
+use Rattle.std.proofs.Common.{subst, ◌∙◌, true≢false, arith, take_at, ne_eqb}
 use Rattle.std.proofs.lemmas.Bool.{false≢true}
 use Rattle.std.proofs.Math.Option.{Option, some, none}
-use Rattle.std.proofs.lemmas.List.Edits.{sets}
 use Rattle.cells.specs.declared.Numbers.{Numbers}
-use Rattle.words.specs.Definitions.{most_picks, most_sections, word, turn_count}
-use Rattle.words.specs.Ranges.{between}
+use Rattle.words.specs.Definitions.{word, turn_count}
 use Rattle.models.proofs.Stores.{sets_front}
 use Rattle.models.specs.Iterator.{longest_of}
 use Rattle.models.specs.Splitting.{split_by}
 use Rattle.models.specs.SplitCode.{Stores}
 use Rattle.models.proofs.SplitCode.{split_ends}
 use Rattle.promises.specs.declared.Draft.{Draft}
-use Rattle.promises.specs.declared.LoadAnswer.{LoadAnswer}
-use Rattle.promises.specs.declared.LoadAnswer.TheVariants.{InForce, Refused as LoadRefused, RefusedAt as LoadRefusedAt}
-use Rattle.promises.specs.Answers.{gave, refused, refused_at, Reply, reply, filled, load_says}
-use Rattle.promises.specs.Refusals.{test, line7, line14, line15, line16, load_refusal}
+use Rattle.promises.specs.declared.refusal.Refusal.{Refusal}
+use Rattle.promises.specs.declared.refusal.Refusal.TheVariants.{ZeroLift}
+use Rattle.promises.specs.Answers.{gave, refused, refused_at, Reply, reply, filled, says, refusal_says, outcome}
+use Rattle.promises.specs.Refusals.{line15, line16, load_refusal, table_refusal}
 use Rattle.layout.specs.Record.{record_of}
-use Rattle.promises.specs.Lifts.{table_size, none_zero, first_zero}
+use Rattle.promises.specs.Lifts.{none_zero, first_zero}
 use Rattle.promises.specs.Book.{load, Query, ask, split, fold, lent}
-use Rattle.promises.specs.Replies.{unless, or_no_split, or_too_long, split_reply, record_reply, refusal_of, refusal_to}
-use Rattle.promises.specs.State.{numbers_of, with_lifts}
+use Rattle.promises.specs.Replies.{or_no_split, or_too_long, split_reply, record_reply, refusal_of, refusal_to}
+use Rattle.promises.specs.State.{with_lifts}
 use Rattle.promises.specs.Promises.{split_held, found_in, computed_to, LoadPromise}
-use Rattle.promises.specs.Lent.{loaded_as, LoadsOn, ReadsOn}
+use Rattle.promises.specs.Lent.{answered_as, LoadsOn, ReadsOn}
 use Rattle.promises.proofs.LiftLaws.{zero_within, zero_behind}
-use Rattle.promises.proofs.RefusalLaws.{or_first, table_fits, load_order}
-use Rattle.promises.specs.Refusals.{or_else}
-use Rattle.promises.proofs.BookLaws.{unless_zero, unless_not}
+use Rattle.promises.proofs.RefusalLaws.{load_first, load_then, table_plain, begun_plain}
+use Rattle.promises.proofs.Outcomes.{handed_on, outcome_zero, outcome_some, outcome_said, refused_by, accepted_by}
 use Rattle.promises.proofs.WritingLaws.{load_refused, load_taken_lem}
 use Rattle.promises.proofs.ReadingLaws.{reads}
 
--- the number that the tests gave
-module _ (number : ℕ) {m : ℕ} (e : number ≡ m) where
-  refused_by : 0 < number → (list : List ℕ) (accepted : Reply) → reply (refused number) list ≡ unless m list accepted
-  refused_by l list accepted = ap (λ x. reply (refused x) list) e ∙ sym (unless_not m list accepted (λ z. omega (arith, e, z)))
-
-  accepted_by : number ≤ 0 → (list : List ℕ) (accepted : Reply) → accepted ≡ unless m list accepted
-  accepted_by l list accepted = sym (unless_zero m list accepted (omega (arith, e)))
-
 -- Any query
 
-module _ (held : Numbers) (Has : Draft → Type 0) (q : Query) (number : ℕ) (e : number ≡ refusal_of held.n held.k (ask q)) where
-  number_on : (d : Draft) → numbers_of d ≡ held → number ≡ refusal_of d.n d.k (ask q)
-  number_on d h = e ∙ ap (λ x. refusal_of x.n x.k (ask q)) (sym h)
+module _ (held : Numbers) (Has : Draft → Type 0) (q : Query) where
+  outcome_on : (d : Draft) → d.numbers ≡ held → outcome (refusal_of held.n held.k (ask q)) ≡ outcome (refusal_of d.numbers.n d.numbers.k (ask q))
+  outcome_on d h = ap (λ x. outcome (refusal_of x.n x.k (ask q))) (sym h)
 
-  pub refused_on : 0 < number → ReadsOn held Has q (reply (refused number) (lent (ask q)))
+  refusal_on : (r : Refusal) → refusal_says r ≡ outcome (refusal_of held.n held.k (ask q)) → ReadsOn held Has q (reply (refusal_says r) (lent (ask q)))
   unfolding computed_to
-  refused_on l d h p = reads d q _ (refused_by number (number_on d h) l (lent (ask q)) _)
+  refusal_on r e d h p = reads d q _ (refused_by r _ (e ∙ outcome_on d h) (lent (ask q)) _)
 
-  pub given_on : number ≤ 0 → (r : Reply) → ((d : Draft) → numbers_of d ≡ held → Has d → r ≡ found_in d q) → ReadsOn held Has q r
+  -- an answer by ? that hands the refusal on
+  pub refused_on : {A : Type 0} (values : A → List ℕ) (answer : Result A Refusal) (r : Refusal) → IsErrAnd answer (λ x. x ≡ r)
+      → refusal_says r ≡ outcome (refusal_of held.n held.k (ask q)) → ReadsOn held Has q (reply (says values answer) (lent (ask q)))
+  refused_on values answer r h e = rw (handed_on answer r h) (refusal_on r e)
+
+  pub given_on : gave [] ≡ outcome (refusal_of held.n held.k (ask q)) → (r : Reply)
+      → ((d : Draft) → d.numbers ≡ held → Has d → r ≡ found_in d q) → ReadsOn held Has q r
   unfolding computed_to
-  given_on l r f d h p = reads d q r (f d h p ∙ accepted_by number (number_on d h) l (lent (ask q)) _)
+  given_on e r f d h p = reads d q r (f d h p ∙ accepted_by _ (e ∙ outcome_on d h) (lent (ask q)) _)
 
 -- What split and record find in their parts
 
-module _ (held : Numbers) (d : Draft) (h : numbers_of d ≡ held) where
+module _ (held : Numbers) (d : Draft) (h : d.numbers ≡ held) where
   -- the search, on every state with these parts
-  search_in : (rows R : List ℕ) (k i : ℕ) → d.rows ≡ rows → d.radius ≡ R
+  search_in : (rows R : List ℕ) (k i : ℕ) → d.places.rows ≡ rows → d.centres.radius ≡ R
       → split_by rows R held.n (longest_of held.n held.longest.0) k i ≡ split_held d k i
   search_in rows R k i p q = rw (← h, ← p, ← q)
 
-  pub split_in_lem : (rows R : List ℕ) (i k : ℕ) (list : List ℕ) (r : Reply) → d.rows ≡ rows → d.radius ≡ R
+  pub split_in_lem : (rows R : List ℕ) (i k : ℕ) (list : List ℕ) (r : Reply) → d.places.rows ≡ rows → d.centres.radius ≡ R
       → r ≡ split_reply (split_by rows R held.n (longest_of held.n held.longest.0) k i) list
       → r ≡ found_in d (split i k list)
   unfolding found_in
   split_in_lem rows R i k list r p q e = e ∙ ap (λ o. split_reply o list) (search_in rows R k i p q)
 
-  pub record_in : (letters rows R : List ℕ) (i k : ℕ) (output : List ℕ) (r : Reply) → d.letters ≡ letters → d.rows ≡ rows → d.radius ≡ R
+  pub record_in : (letters rows R : List ℕ) (i k : ℕ) (output : List ℕ) (r : Reply) → d.letters ≡ letters → d.places.rows ≡ rows → d.centres.radius ≡ R
       → r ≡ record_reply (word letters) i (split_by rows R held.n (longest_of held.n held.longest.0) k i) output
       → r ≡ found_in d (fold i k output)
   unfolding found_in
@@ -133,56 +128,48 @@ module _ (rows R : List ℕ) (n s k i : ℕ) (before : List ℕ) (b : Bool) (aft
 plain_number : (lifts : List ℕ) (number : ℕ) → (number ≡ 15 → ⊥) → refused number ≡ refusal_to (load lifts) number
 plain_number lifts number f = simp (ne_eqb number 15 f)
 
-table_small : (s t : Bool) → or_else (test s 7 0) (test t 14 0) ≤ 14
-table_small true true = omega arith
-table_small true false = omega arith
-table_small false t = omega arith
+module _ (held : Numbers) (before lifts : List ℕ) where
+  abbrev table : ℕ
+  table = table_refusal held.n held.k (length lifts)
 
-sets_all : (xs l : List ℕ) → length xs ≡ length l → sets l 0 xs ≡ xs
-sets_all xs l e = sets_front xs l (omega arith) ∙ ap (λ t. xs ++ t) (drop_of_length-le l {i = length xs} (omega arith)) ∙ append-nil xs
+  abbrev all : ℕ
+  all = load_refusal held.n held.k lifts
 
-last_small : (t : Bool) → 0 < test t 16 0 → test t 16 0 ≡ 16
-last_small true l = absurd (omega arith)
-last_small false l = refl
+  all_of : (d : Draft) → d.numbers ≡ held → all ≡ load_refusal d.numbers.n d.numbers.k lifts
+  all_of d h = ap (λ x. load_refusal x.n x.k lifts) (sym h)
 
-module _ (held : Numbers) (before lifts : List ℕ) (number : ℕ) (e : number ≡ or_else (line7 held.n held.k 0) (line14 (length lifts) 0)) where
-  -- on every state with these parts
-  number_of : (d : Draft) → numbers_of d ≡ held → or_else number (or_else (line15 lifts 0) (line16 held.n 0)) ≡ load_refusal d.n d.k lifts
-  number_of d h = load_order held.n held.k number lifts e ∙ ap (λ x. load_refusal x.n x.k lifts) (sym h)
+  -- refused under its number, what is lent is as it was
+  refused_under : (r : Refusal) → refusal_says r ≡ refusal_to (load lifts) all → all ≢ 0 → LoadsOn held before lifts (Err r) before
+  refused_under r s f d h p =
+      subst (λ l. LoadPromise d lifts (answered_as (Err r) (with_lifts d l))) p
+      (load_refused d lifts r (s ∙ ap (refusal_to (load lifts)) (all_of d h)) (λ z. f (all_of d h ∙ z)))
 
-  -- refused under a number of the order, what is lent is as it was
-  refused_under : (x : ℕ) (answer : LoadAnswer) → x ≡ or_else number (or_else (line15 lifts 0) (line16 held.n 0)) → (x ≡ 0 → ⊥)
-      → load_says answer ≡ refusal_to (load lifts) x → LoadsOn held before lifts answer before
-  refused_under x answer o f s d h p =
-      subst (λ l. LoadPromise d lifts (loaded_as answer (with_lifts d l))) p (load_refused d lifts x (o ∙ number_of d h) answer s f)
+  -- a number that is not 15 has no place
+  refused_plain : (r : Refusal) (number : ℕ) → refusal_says r ≡ outcome number → all ≡ number → (number ≡ 15 → ⊥) → LoadsOn held before lifts (Err r) before
+  refused_plain r number e q f =
+      refused_under r (outcome_said r _ e ∙ plain_number lifts number f ∙ ap (refusal_to (load lifts)) (sym q)) (λ z. outcome_some r _ e (sym q ∙ z))
 
-  pub table_refused : 0 < number → LoadsOn held before lifts (LoadRefused number) before
-  table_refused l =
-      let small = table_small (leb held.n most_picks && between 1 most_sections held.k) (eqb (length lifts) table_size) in
-      refused_under number (LoadRefused number) (or_first number _ (λ q. omega arith)) (λ q. omega arith)
-      (plain_number lifts number (λ q. omega (arith, e, small)))
+  pub table_refused : (r : Refusal) → refusal_says r ≡ outcome table → LoadsOn held before lifts (Err r) before
+  table_refused r e =
+      refused_plain r table e (load_first held.n held.k lifts (outcome_some r _ e)) (table_plain held.n held.k (length lifts))
 
-  module _ (clear : number ≤ 0) (place : ℕ) (z : place ≡ first_zero lifts) where
-    pub zero_refused : place < length lifts → LoadsOn held before lifts (LoadRefusedAt 15 place) before
+  module _ (clear : gave [] ≡ outcome table) (place : ℕ) (z : place ≡ first_zero lifts) where
+    others : all ≡ line15 lifts (line16 held.n 0)
+    others = load_then held.n held.k lifts (outcome_zero table clear)
+
+    pub zero_refused : place < length lifts → LoadsOn held before lifts (Err (ZeroLift place)) before
     zero_refused l =
-        let n : number ≡ 0 = omega arith in
         let b : none_zero lifts ≡ false = zero_within lifts (omega (arith, z)) in
-        refused_under 15 (LoadRefusedAt 15 place) (rw (n, b)) (λ q. omega arith) (ap (refused_at 15) z)
+        let q : all ≡ 15 = others ∙ rw b refl in
+        refused_under (ZeroLift place) (ap (refused_at 15) z ∙ ap (refusal_to (load lifts)) (sym q)) (λ t. omega (arith, q, t))
 
-    module _ (behind : length lifts ≤ place) (last : ℕ) (s : last ≡ line16 held.n 0) where
-      passed_number : last ≡ or_else number (or_else (line15 lifts 0) (line16 held.n 0))
-      passed_number =
-          let n : number ≡ 0 = omega arith in
-          let b : none_zero lifts ≡ true = zero_behind lifts (omega (arith, z)) in
-          rw (n, b) s
+    module _ (behind : length lifts ≤ place) where
+      last : all ≡ line16 held.n 0
+      last = let b : none_zero lifts ≡ true = zero_behind lifts (omega (arith, z)) in others ∙ rw b refl
 
-      pub begun_refused : 0 < last → LoadsOn held before lifts (LoadRefused last) before
-      begun_refused l =
-          let sixteen = last_small (eqb held.n 0) (omega (arith, s)) in
-          refused_under last (LoadRefused last) passed_number (λ q. omega arith) (plain_number lifts last (λ q. omega (arith, s, sixteen)))
+      pub begun_refused : (r : Refusal) → refusal_says r ≡ outcome (line16 held.n 0) → LoadsOn held before lifts (Err r) before
+      begun_refused r e = refused_plain r (line16 held.n 0) e last (begun_plain held.n)
 
-      -- stored over a table of as many
-      pub table_taken : last ≤ 0 → length before ≡ table_size → (after : List ℕ) → after ≡ sets before 0 lifts → LoadsOn held before lifts InForce after
-      table_taken l size after q d h p =
-          let same : length lifts ≡ table_size = table_fits held.n held.k (length lifts) (sym e ∙ omega arith) in
-          rw (q ∙ sets_all lifts before (omega arith)) (load_taken_lem d lifts last (passed_number ∙ number_of d h) (omega arith))
+      -- stored over the table that was
+      pub table_taken : gave [] ≡ outcome (line16 held.n 0) → (after : List ℕ) → after ≡ lifts → LoadsOn held before lifts (Ok tt) after
+      table_taken e after q d h p = rw q (load_taken_lem d lifts (sym (all_of d h) ∙ last ∙ outcome_zero (line16 held.n 0) e))

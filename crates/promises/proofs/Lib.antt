@@ -3,7 +3,9 @@ pub mod Lifts
 pub mod LiftLaws
 pub mod MarkLaws
 pub mod RefusalLaws
+pub mod Orders
 pub mod BookLaws
+pub mod Outcomes
 pub mod WritingLaws
 pub mod BackLaws
 pub mod MarkingLaws

@@ -1,6 +1,9 @@
 -- Lifts of rows, and the first lift of 0.
-use Rattle.std.specs.Prelude.{◌≡◌, refl, Bool, true, false, List, [], ◌∷◌, ◌++◌, ℕ, zero, suc, ◌≤◌, ◌<◌, length, get_or, drop}
-use Rattle.std.proofs.Common.{sym, true≢false, arith}
+use Rattle.std.specs.Prelude.{◌≡◌, refl, Bool, true, false, List, [], ◌∷◌, ◌++◌, ℕ, zero, suc, ◌+◌, ◌≤◌, ◌<◌, Some, None, cond, ltb, nat_eq, unwrap_or, length, get_or}
+use Rattle.std.proofs.Common.{sym, ap, ◌∙◌, true≢false, ltb-true, ltb-false, ne_eqb, arith}
+use Rattle.std.proofs.lemmas.List.Recursion.{is_position_or_len}
+use Rattle.std.specs.List.{position, position_or_len}
+use Rattle.words.proofs.Cases.{clash}
 use Rattle.std.proofs.lemmas.List.{map-append, length-map}
 use Rattle.std.proofs.Math.Decide.{dec_lt}
 use Rattle.promises.specs.Lifts.{lift_in, lifted_by, none_zero, first_zero, FirstZero}
@@ -64,17 +67,30 @@ zero_behind [] l = refl
 zero_behind (zero ∷ lifts) l = absurd (omega arith)
 zero_behind (suc x ∷ lifts) l = zero_behind lifts (omega arith)
 
--- from a place on
+-- as the library's search finds it
 
-pub zero_here : (lifts : List ℕ) (j : ℕ) → j < length lifts → get_or lifts j 0 ≡ 0 → first_zero (drop j lifts) ≡ 0
-zero_here [] j l e = absurd (omega arith)
-zero_here (zero ∷ lifts) zero l e = refl
-zero_here (suc x ∷ lifts) zero l e = absurd (omega arith)
-zero_here (x ∷ lifts) (suc j) l e = zero_here lifts j (omega arith) e
+zero_step : (x : ℕ) (lifts : List ℕ) → first_zero (x ∷ lifts) ≡ cond (nat_eq x 0) 0 (1 + first_zero lifts)
+zero_step zero lifts = refl
+zero_step (suc x) lifts = rw (ne_eqb (suc x) 0 (λ z. omega (arith, z))) (omega arith)
 
-pub zero_later : (lifts : List ℕ) (j : ℕ) → j < length lifts → (get_or lifts j 0 ≡ 0 → ⊥)
-    → first_zero (drop j lifts) ≡ suc (first_zero (drop (suc j) lifts))
-zero_later [] j l f = absurd (omega arith)
-zero_later (zero ∷ lifts) zero l f = absurd (f refl)
-zero_later (suc x ∷ lifts) zero l f = refl
-zero_later (x ∷ lifts) (suc j) l f = zero_later lifts j (omega arith) f
+zero_searched : (lifts : List ℕ) → first_zero lifts ≡ position_or_len (λ x. nat_eq x 0) lifts
+zero_searched lifts = is_position_or_len first_zero (λ x. nat_eq x 0) refl zero_step lifts
+
+found_at : (b : Bool) (x size place : ℕ) → ltb x size ≡ b → cond b (Some x) None ≡ Some place → (place ≡ x) × (place < size)
+found_at true x size place e f = let g : place ≡ x = sym (ap (λ o. unwrap_or o 0) f) in (g, omega (arith, g, ltb-true x size e))
+found_at false x size place e f = clash cc
+
+missing_at : (b : Bool) (x size : ℕ) → ltb x size ≡ b → cond b (Some x) None ≡ None → size ≤ x
+missing_at true x size e f = clash cc
+missing_at false x size e f = ltb-false x size e
+
+pub zero_found : (lifts : List ℕ) (place : ℕ) → position (λ x. nat_eq x 0) lifts ≡ Some place → (place ≡ first_zero lifts) × (place < length lifts)
+zero_found lifts place e =
+    let x : ℕ = position_or_len (λ x. nat_eq x 0) lifts in
+    let r = found_at (ltb x (length lifts)) x (length lifts) place refl e in
+    (r.0 ∙ sym (zero_searched lifts), r.1)
+
+pub zero_missing : (lifts : List ℕ) → position (λ x. nat_eq x 0) lifts ≡ None → length lifts ≤ first_zero lifts
+zero_missing lifts e =
+    let x : ℕ = position_or_len (λ x. nat_eq x 0) lifts in
+    omega (arith, zero_searched lifts, missing_at (ltb x (length lifts)) x (length lifts) refl e)

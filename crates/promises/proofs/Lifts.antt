@@ -1,7 +1,7 @@
 -- The lifts, fixed and loaded: "Each letter lifts two of eight harnesses; harness h is bit h-1 of a lift byte."
-use Rattle.std.specs.Prelude.{◌≡◌, refl, Bool, true, false, not, ◌&&◌, ◌≢◌, List, [], ◌∷◌, ℕ, zero, suc, ◌-◌, ◌≤◌, ◌<◌, ltb, eqb, length, get_or}
+use Rattle.std.specs.Prelude.{◌≡◌, refl, Bool, true, not, ◌&&◌, ◌≢◌, List, [], ◌∷◌, ℕ, zero, suc, ◌-◌, ◌≤◌, ◌<◌, ltb, eqb, length, get_or}
 use Rattle.std.proofs.Common.{sym, arith, ltb-true, eqb-true}
-use Rattle.std.proofs.lemmas.Bool.{false≢true, eqb-false}
+use Rattle.std.proofs.lemmas.Bool.{not-true, eqb-false}
 use Rattle.std.proofs.Math.Bool.{and-eq-true_iff}
 use Rattle.std.proofs.Math.Decide.{dec_lt}
 use Rattle.words.specs.Definitions.{first_letter, last_letter}
@@ -34,13 +34,9 @@ every_at p [] e i h = absurd (omega arith)
 every_at p (x ∷ l) e zero h = ((and-eq-true_iff (p x) (every p l)).0 e).0
 every_at p (x ∷ l) e (suc i) h = every_at p l ((and-eq-true_iff (p x) (every p l)).0 e).1 i (omega arith)
 
-negated : (b : Bool) → not b ≡ true → b ≡ false
-negated true e = absurd (false≢true e)
-negated false e = refl
-
 differ : (x y : ℕ) → differs x y ≡ true → x ≢ y
 unfolding differs
-differ x y e = eqb-false x y (negated (eqb x y) e)
+differ x y e = eqb-false x y (not-true (eqb x y) e)
 
 distinct_at : (l : List ℕ) → distinct l ≡ true → (i j : ℕ) → i < j → j < length l → get_or l i 0 ≢ get_or l j 0
 unfolding distinct

@@ -1,11 +1,13 @@
 -- Marks as they are stored, and how many there are.
-use Rattle.std.specs.Prelude.{◌≡◌, refl, Bool, true, false, cond, ◌||◌, ◌↔◌, List, [], ◌∷◌, ◌++◌, map, ℕ, zero, suc, ◌+◌, ◌-◌, ◌≤◌, ◌<◌, leb, ltb, length, take, drop, get_or, set, replicate}
-use Rattle.std.proofs.Common.{sym, ap, ap₂, ◌∙◌, append-nil, arith, drop_of_length-le, length-take-le, take_all, take-suc, drop-cons, leb-true, leb-false, ltb-true, le-leb}
+use Rattle.std.specs.Prelude.{◌≡◌, refl, Bool, true, false, cond, ◌||◌, ◌↔◌, List, [], ◌∷◌, ◌++◌, map, ℕ, zero, suc, ◌+◌, ◌-◌, ◌≤◌, ◌<◌, leb, ltb, nat_lt, length, take, drop, get_or, set, replicate}
+use Rattle.std.proofs.Common.{sym, ap, ap₂, ◌∙◌, append-nil, arith, drop_of_length-le, length-take-le, take_all, take-suc, drop-cons, leb-true, leb-false, ltb-true, le-leb, lt-ltb}
 use Rattle.std.proofs.lemmas.List.{map-append, length-map, set_at, get_or_at}
-use Rattle.std.proofs.Math.Option.{Option, some, none}
+use Rattle.std.proofs.Math.Option.{Option, some, none, none-ne-some, some-injective}
 use Rattle.std.proofs.Math.Decide.{dec_lt}
 use Rattle.std.proofs.Math.Seq.{append_snoc}
 use Rattle.std.proofs.lemmas.Bool.{lt-leb}
+use Rattle.std.proofs.lemmas.List.Recursion.{is_count_by}
+use Rattle.std.specs.List.{count_by}
 use Rattle.words.proofs.Cases.{clash}
 use Rattle.words.specs.Definitions.{first_letter}
 use Rattle.promises.specs.Lifts.{table_size}
@@ -59,13 +61,14 @@ entries_set [] i m = refl
 entries_set (x ∷ stored) zero m = ap (λ l. suc m ∷ l) (sym (entries_read stored))
 entries_set (x ∷ stored) (suc i) m = ap₂ (λ y l. y ∷ l) (sym (entry_read x)) (entries_set stored i m)
 
--- How many, from an entry on
-pub many_from : (stored : List ℕ) (j : ℕ) → j < length stored
-    → how_many (marks_in (drop j stored)) ≡ how_many (marks_in (get_or stored j 0 ∷ [])) + how_many (marks_in (drop (suc j) stored))
-many_from [] j l = absurd (omega arith)
-many_from (zero ∷ stored) zero l = omega arith
-many_from (suc x ∷ stored) zero l = omega arith
-many_from (x ∷ stored) (suc j) l = many_from stored j (omega arith)
+-- How many, as the library counts them
+
+many_step : (x : ℕ) (stored : List ℕ) → how_many (marks_in (x ∷ stored)) ≡ cond (nat_lt 0 x) (1 + how_many (marks_in stored)) (how_many (marks_in stored))
+many_step zero stored = refl
+many_step (suc x) stored = rw (lt-ltb 0 (suc x) (omega arith)) (omega arith)
+
+pub many_counted : (stored : List ℕ) → how_many (marks_in stored) ≡ count_by (λ x. nat_lt 0 x) stored
+many_counted stored = is_count_by (λ l. how_many (marks_in l)) (λ x. nat_lt 0 x) refl many_step stored
 
 -- Dropped
 
@@ -144,44 +147,38 @@ drop_few m (some x ∷ marks) = go (leb x m) (drop_few m marks)
 abbrev pub AtMost : (n : ℕ) → Marks → Type 0
 AtMost n marks = (i m : ℕ) → get_or marks i none ≡ some m → m ≤ n
 
-not_some : {m : ℕ} → none ≡ some m → ⊥
-not_some {m} e = clash cc
-
-same_mark : {m x : ℕ} → some x ≡ some m → x ≡ m
-same_mark e = cc
-
 pub most_none : (n : ℕ) → AtMost n no_marks
 most_none n i m e = absurd (never table_size i e)
   where
     never : (k i : ℕ) → get_or (replicate k none) i none ≡ some m → ⊥
-    never zero i q = not_some q
-    never (suc k) zero q = not_some q
+    never zero i q = none-ne-some _ q
+    never (suc k) zero q = none-ne-some _ q
     never (suc k) (suc i) q = never k i q
 
 pub most_set : (n i : ℕ) (marks : Marks) → AtMost n marks → AtMost n (set marks i (some n))
-most_set n i [] f j m e = absurd (not_some e)
-most_set n zero (o ∷ marks) f zero m e = omega (arith, same_mark e)
+most_set n i [] f j m e = absurd (none-ne-some _ e)
+most_set n zero (o ∷ marks) f zero m e = omega (arith, some-injective _ _ e)
 most_set n zero (o ∷ marks) f (suc j) m e = f (suc j) m e
 most_set n (suc i) (o ∷ marks) f zero m e = f zero m e
 most_set n (suc i) (o ∷ marks) f (suc j) m e = most_set n i marks (λ k. f (suc k)) j m e
 
 pub most_drop : (n : ℕ) (marks : Marks) → AtMost n (drop_longer n marks)
-most_drop n [] j m e = absurd (not_some e)
-most_drop n (none ∷ marks) zero m e = absurd (not_some e)
+most_drop n [] j m e = absurd (none-ne-some _ e)
+most_drop n (none ∷ marks) zero m e = absurd (none-ne-some _ e)
 most_drop n (some x ∷ marks) zero m e = go (leb x n) refl e
   where
     go : (t : Bool) → leb x n ≡ t → cond t (some x) none ≡ some m → m ≤ n
-    go true q r = omega (arith, leb-true x n q, same_mark r)
-    go false q r = absurd (not_some r)
+    go true q r = omega (arith, leb-true x n q, some-injective _ _ r)
+    go false q r = absurd (none-ne-some _ r)
 most_drop n (o ∷ marks) (suc j) m e = most_drop n marks j m e
 
 -- which marks stay
 pub kept_mark : (m : ℕ) (marks : Marks) (i y : ℕ) → (get_or (drop_longer m marks) i none ≡ some y) ↔ ((get_or marks i none ≡ some y) × (y ≤ m))
-kept_mark m [] i y = (λ e. absurd (not_some e), λ e. absurd (not_some e.0))
-kept_mark m (none ∷ marks) zero y = (λ e. absurd (not_some e), λ e. absurd (not_some e.0))
+kept_mark m [] i y = (λ e. absurd (none-ne-some _ e), λ e. absurd (none-ne-some _ e.0))
+kept_mark m (none ∷ marks) zero y = (λ e. absurd (none-ne-some _ e), λ e. absurd (none-ne-some _ e.0))
 kept_mark m (some x ∷ marks) zero y = go (leb x m) refl
   where
     go : (t : Bool) → leb x m ≡ t → (cond t (some x) none ≡ some y) ↔ ((some x ≡ some y) × (y ≤ m))
-    go true q = (λ e. (e, omega (arith, leb-true x m q, same_mark e)), λ e. e.0)
-    go false q = (λ e. absurd (not_some e), λ e. absurd (omega (arith, leb-false x m q, same_mark e.0, e.1)))
+    go true q = (λ e. (e, omega (arith, leb-true x m q, some-injective _ _ e)), λ e. e.0)
+    go false q = (λ e. absurd (none-ne-some _ e), λ e. absurd (omega (arith, leb-false x m q, some-injective _ _ e.0, e.1)))
 kept_mark m (o ∷ marks) (suc i) y = kept_mark m marks i y

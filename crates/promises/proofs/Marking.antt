@@ -6,6 +6,7 @@ use mathlib.Core.List.{List, [], ◌∷◌, ◌++◌}
 use mathlib.Core.Option.{Option, some, none}
 use Prim.Native.Nat.{ℕ, ◌-◌, ◌≤◌}
 use native.Mathlib.Omega.{arith}
+use Rattle.std.specs.Prelude.{Result, Ok, Err}
 use lib.ListN.{length, length-append, length-map, length-set}
 use lib.Seq.{length-take-le, get_or-set_same, get_or-set_other}
 use Rattle.words.proofs.Cases.{clash}
@@ -13,10 +14,9 @@ use Rattle.words.specs.Definitions.{first_letter, last_letter}
 use Rattle.words.specs.Ranges.{between, between_true}
 use Rattle.layout.specs.Layout.{Letter}
 use Rattle.promises.specs.declared.Draft.{Draft}
-use Rattle.promises.specs.declared.MarkAnswer.{MarkAnswer}
-use Rattle.promises.specs.declared.MarkAnswer.TheVariants.{Done, Refused as MarkRefused}
-use Rattle.promises.specs.declared.Marked.{Marked}
-use Rattle.promises.specs.Answers.{gave, refused, mark_says}
+use Rattle.promises.specs.declared.refusal.Refusal.{Refusal}
+use Rattle.promises.specs.Answers.{gave, refused, number_of, done_says, Changed}
+use Rattle.promises.proofs.Outcomes.{refusal_number}
 use Rattle.promises.specs.Lifts.{table_size}
 use Rattle.promises.specs.Marks.{most_marks, mark_at, is_mark, mark_length, how_many, room_for, up_to}
 use Rattle.promises.proofs.MarkLaws.{AtMost, most_none, most_set, most_drop, set_few, drop_few, kept_mark}
@@ -117,9 +117,9 @@ marks_set d K r ms o xs ys name x e ok =
 
 -- Going back
 
-done : (answer : MarkAnswer) → Accepted (mark_says answer) → mark_says answer ≡ gave []
-done Done ok = refl
-done (MarkRefused number) ok = absurd (ok number (inl refl))
+accepted : (answer : Result Unit Refusal) → Accepted (done_says answer) → done_says answer ≡ gave []
+accepted (Ok x) ok = refl
+accepted (Err r) ok = absurd (ok (number_of r) (refusal_number r))
 
 pub backs_hold : BacksHold
 backs_hold d K r ms o xs ys name x e ok =
@@ -134,19 +134,19 @@ backs_hold d K r ms o xs ys name x e ok =
       within = (book_fits (calls xs)).within (name - first_letter) _ is;
       stay = λ y z. kept_mark _ b.marks (y - first_letter) z;
       state =
-          met.1.stores (done x.answer ok) ∙ ap (λ m. cut_to (last d xs) (mark_length (mark_at m name))) (held_marks h)
+          met.1.stores (accepted x.answer ok) ∙ ap (λ m. cut_to (last d xs) (mark_length (mark_at m name))) (held_marks h)
           ∙ cut_state h (mark_length (mark_at b.marks name));
     }
 
 -- On any state
 
-module _ {d : Draft} {call : Call} (t : Bool) (late : Line) {next : Draft} {r : Marked} (p : Marking d call (or_refused t late.number) next r)
+module _ {d : Draft} {call : Call} (t : Bool) (late : Line) {next : Draft} {r : Changed} (p : Marking d call (or_refused t late.number) next r)
     (no : t ≡ false → late.Met) (yes : t ≡ true → late.Met → ⊥) where
   abbrev ls : List Line
-  ls = listed d.n d.k call
+  ls = listed d.numbers.n d.numbers.k call
 
   -- refused under the first of its lines
-  met : {x : ℕ} → mark_says r.answer ≡ refused x → First (ls ++ late ∷ []) x → AnyMarks d call late next r
+  met : {x : ℕ} → done_says r.answer ≡ refused x → First (ls ++ late ∷ []) x → AnyMarks d call late next r
   met {x} s f = record {
     refuses = λ y. (
       λ e. let z : x ≡ y = same_number (sym s ∙ e) in rw z at f,
@@ -158,9 +158,9 @@ module _ {d : Draft} {call : Call} (t : Bool) (late : Line) {next : Draft} {r : 
 
   any_marks : AnyMarks d call late next r
   unfolding First NoneMet
-  any_marks = go (listed_tested d.n d.k call)
+  any_marks = go (listed_tested d.numbers.n d.numbers.k call)
     where
-      behind : NoneMet ls → (s : Bool) → t ≡ s → mark_says r.answer ≡ or_refused s late.number → AnyMarks d call late next r
+      behind : NoneMet ls → (s : Bool) → t ≡ s → done_says r.answer ≡ or_refused s late.number → AnyMarks d call late next r
       behind g false q e = met e (first_behind ls (late ∷ []) late.number g (inl (no q, refl)))
       behind g true q e =
           let f : NoneMet (ls ++ late ∷ []) = none_both ls (late ∷ []) g (yes q, tt) in
@@ -170,7 +170,7 @@ module _ {d : Draft} {call : Call} (t : Bool) (late : Line) {next : Draft} {r : 
             accepts = λ _. (e, p.stores e);
           }
 
-      go : Tested ls (refusal_of d.n d.k call) → AnyMarks d call late next r
+      go : Tested ls (refusal_of d.numbers.n d.numbers.k call) → AnyMarks d call late next r
       go (hit g f) = met (said_is (p.computes ∙ unless_not _ [] _ f)) (first_front ls (late ∷ []) _ g)
       go (clear g z) = behind g t refl (said_is (p.computes ∙ unless_zero _ [] _ z))
 

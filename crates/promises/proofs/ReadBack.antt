@@ -6,6 +6,7 @@ use native.Mathlib.Omega.{arith}
 use native.Mathlib.Decide.{dec_lt}
 use lib.ListN.{length, take, drop, get_or}
 use lib.Seq.{take-append_seam}
+use Rattle.std.specs.Prelude.{Option, Some, None}
 use borrow.Author.Tests.{eq-eqb, le-leb}
 use Rattle.words.specs.Definitions.{From, most_picks, most_sections}
 use Rattle.words.specs.Definitions.{word, stretch, prefix, lengths_back, Sections, done, next, Named}
@@ -14,8 +15,6 @@ use Rattle.cells.specs.declared.Place.{Place}
 use Rattle.layout.specs.declared.Section.{Section}
 use Rattle.layout.specs.declared.Turn.{Turn}
 use Rattle.layout.specs.declared.Turn.TheVariants.{OnPick, Between}
-use Rattle.layout.specs.declared.Yielded.{Yielded}
-use Rattle.layout.specs.declared.Yielded.TheVariants.{Next, Nothing}
 use Rattle.layout.specs.Record.{Folded, folded_of, record_of}
 use Rattle.layout.specs.Layout.{Every, none, more, Letter, total, Passes}
 use Rattle.layout.specs.Unfolding.{unfolded, picks_of}
@@ -66,16 +65,16 @@ turn_others : (x : Turn) (k a : ℕ) → (get_or (turn_numbers k x a) 1 0 ≡ k)
 turn_others (OnPick p) k a = (refl, refl)
 turn_others (Between p) k a = (refl, refl)
 
-yielded_one : (x y : Yielded) (a b : ℕ) → yielded_numbers x a ≡ yielded_numbers y b → (x ≡ y) × (a ≡ b)
-yielded_one (Next s) (Next t) a b e =
+yielded_one : (x y : Option Section) (a b : ℕ) → yielded_numbers x a ≡ yielded_numbers y b → (x ≡ y) × (a ≡ b)
+yielded_one (Some s) (Some t) a b e =
     let x = turn_others s.turn s.length a in
     let y = turn_others t.turn t.length b in (
-      ap₂ (λ l u. Next (record { length = l; turn = u })) (sym x.0 ∙ entry 1 e ∙ y.0) (turn_one s.turn t.turn s.length t.length a b e),
+      ap₂ (λ l u. Some (record { length = l; turn = u })) (sym x.0 ∙ entry 1 e ∙ y.0) (turn_one s.turn t.turn s.length t.length a b e),
       sym x.1 ∙ entry 3 e ∙ y.1,
     )
-yielded_one (Next s) Nothing a b e = absurd (omega (arith, turn_some s.turn s.length a, entry 0 e))
-yielded_one Nothing (Next t) a b e = absurd (omega (arith, turn_some t.turn t.length b, entry 0 e))
-yielded_one Nothing Nothing a b e = (refl, entry 3 e)
+yielded_one (Some s) None a b e = absurd (omega (arith, turn_some s.turn s.length a, entry 0 e))
+yielded_one None (Some t) a b e = absurd (omega (arith, turn_some t.turn t.length b, entry 0 e))
+yielded_one None None a b e = (refl, entry 3 e)
 
 pub section_is : SectionIs
 section_is bytes at r e =

@@ -32,16 +32,16 @@ use Rattle.promises.proofs.WritingLaws.{byte_mask, held_picks}
 
 -- what is stored, where the state holds what stands in the book
 module _ {d : Draft} {b : Book} (h : Holds d b) where
-  radii : Radii (word (lifted b)) (length (lifted b)) d.longest.0 d.radius
+  radii : Radii (word (lifted b)) (length (lifted b)) d.numbers.longest.0 d.centres.radius
   radii = h.arrays.iterates.stretches.radii
 
-  row_held : (i : ℕ) → i ≤ length (lifted b) → at d.rows i ≡ row_word b.K (word (lifted b)) i
+  row_held : (i : ℕ) → i ≤ length (lifted b) → at d.places.rows i ≡ row_word b.K (word (lifted b)) i
   row_held i l = h.arrays.gathers.rows i l
 
-  longest_held : longest_of d.n d.longest.0 ≡ longest_centre (word (lifted b)) (length (lifted b))
+  longest_held : longest_of d.numbers.n d.numbers.longest.0 ≡ longest_centre (word (lifted b)) (length (lifted b))
   longest_held = rw (held_picks h) (longest_right radii)
 
-  stored_centre : longest_of (length (lifted b)) d.longest.0 ≡ d.longest.0
+  stored_centre : longest_of (length (lifted b)) d.numbers.longest.0 ≡ d.numbers.longest.0
   stored_centre = in_range radii
 
   -- a place within the row is within what is read of it
@@ -53,7 +53,7 @@ module _ {d : Draft} {b : Book} (h : Holds d b) where
 split_held_lem : {d : Draft} {b : Book} (h : Holds d b) (k i : ℕ) → k ≤ b.K → i ≤ length b.row → split_held d k i ≡ split_of (word (lifted b)) i k
 split_held_lem {d} {b} h k i l m =
     rw (held_picks h, stored_centre h)
-    (split-by-right b.K (word (lifted b)) (length (lifted b)) d.longest.0 d.rows d.radius (radii h) (row_held h) k i l
+    (split-by-right b.K (word (lifted b)) (length (lifted b)) d.numbers.longest.0 d.places.rows d.centres.radius (radii h) (row_held h) k i l
     (within_lifted h i m))
 
 -- Record: w and v are letters, x what is read of them

@@ -1,14 +1,12 @@
 -- What a call's number 0 says of its arguments.
-use Rattle.std.specs.Prelude.{◌≡◌, refl, Bool, true, false, ◌&&◌, List, ℕ, zero, suc, ◌+◌, ◌*◌, ◌≤◌, ◌<◌, eqb, leb, ltb, length}
-use Rattle.std.proofs.Common.{sym, ap, ◌∙◌, arith, leb-true, ltb-true, le-leb, le-ltb, lt-ltb, eqb-true, eq-eqb, ne_eqb}
+use Rattle.std.specs.Prelude.{◌≡◌, ◌≢◌, refl, Bool, true, false, ◌&&◌, List, ℕ, ◌+◌, ◌*◌, ◌≤◌, ◌<◌, eqb, leb, ltb, length}
+use Rattle.std.proofs.Common.{arith, leb-true, ltb-true, le-leb, eqb-true}
 use Rattle.std.proofs.Math.Bool.{decide, decide_iff, and-eq-true_iff}
-use Rattle.std.proofs.Math.Decide.{dec_le}
-use Rattle.std.proofs.lemmas.Bool.{lt-leb}
 use Rattle.words.specs.Definitions.{most_picks, most_sections, most_visits, first_letter, last_letter, From, Rising}
 use Rattle.words.specs.Computed.{rising?}
 use Rattle.words.specs.Ranges.{between, between_true}
-use Rattle.promises.specs.Lifts.{table_size, none_zero}
-use Rattle.promises.specs.Refusals.{test, line1, line2, line3, line4, line6, line7, line8, line13, line14, line15, line16, start_refusal, feed_refusal, load_refusal, mask_refusal, centre_refusal, longest_refusal, split_refusal, record_refusal, letter_refusal, show_refusal, or_else}
+use Rattle.promises.specs.Lifts.{table_size}
+use Rattle.promises.specs.Refusals.{test, line3, line4, line6, line7, line8, line13, line14, line15, line16, start_refusal, feed_refusal, load_refusal, table_refusal, mask_refusal, centre_refusal, longest_refusal, split_refusal, record_refusal, letter_refusal, show_refusal}
 
 test_zero : (t : Bool) (number after : ℕ) → 0 < number → test t number after ≡ 0 → (t ≡ true) × (after ≡ 0)
 test_zero true number after l e = (refl, e)
@@ -98,120 +96,44 @@ split_fits n K i k entries e =
       leb-true _ _ f.0,
     )
 
--- Two tests, one after the other: the first number that is not 0
+-- a record's tests are the split's, on a list that is long enough
+pub record_as_split : (n K i k : ℕ) → split_refusal n K i k k ≡ record_refusal n K i k
+unfolding split_refusal record_refusal
+record_as_split n K i k = simp (le-leb k k (omega arith))
 
-or_else_lem : (t : Bool) (number after : ℕ) → or_else (test t (suc number) 0) after ≡ test t (suc number) after
-or_else_lem true number after = refl
-or_else_lem false number after = refl
+pub table_fits : (n K bytes : ℕ) → table_refusal n K bytes ≡ 0 → bytes ≡ table_size
+unfolding table_refusal
+table_fits n K bytes e = eqb-true bytes table_size (test_zero (eqb bytes table_size) 14 0 (omega arith) (passed n K _ e).1).0
 
-two_tests : (s t : Bool) (x y after : ℕ) → or_else (test s (suc x) (test t (suc y) 0)) after ≡ test s (suc x) (test t (suc y) after)
-two_tests true t x y after = or_else_lem t y after
-two_tests false t x y after = refl
+-- A load: 7 and 14; then 15, which has a place, and 16
 
-pub feed_order : (n K pick entries : ℕ)
-    → or_else (line7 n K 0) (or_else (line2 pick 0) (or_else (line3 entries 0) (line8 n 0))) ≡ feed_refusal n K pick entries
-unfolding feed_refusal
-feed_order n K pick entries =
-    or_else_lem (leb n most_picks && between 1 most_sections K) 6 _
-    ∙ ap (line7 n K) (or_else_lem (between first_letter last_letter pick) 1 _ ∙ ap (line2 pick) (or_else_lem (leb most_visits entries) 2 _))
+two_first : (s t : Bool) (x y after : ℕ) → test s x (test t y 0) ≢ 0 → test s x (test t y after) ≡ test s x (test t y 0)
+two_first true true x y after f = absurd (f refl)
+two_first true false x y after f = refl
+two_first false t x y after f = refl
 
-pub mask_order : (n K i : ℕ) → or_else (line7 n K 0) (line4 0 n i 0) ≡ mask_refusal n K i
-unfolding mask_refusal
-mask_order n K i = or_else_lem (leb n most_picks && between 1 most_sections K) 6 _
+pub load_first : (n K : ℕ) (lifts : List ℕ) → table_refusal n K (length lifts) ≢ 0 → load_refusal n K lifts ≡ table_refusal n K (length lifts)
+unfolding load_refusal table_refusal
+load_first n K lifts f = two_first (leb n most_picks && between 1 most_sections K) (eqb (length lifts) table_size) 7 14 _ f
 
--- last is the last centre where n passes
-pub centre_order : (n K last c : ℕ) → (n ≤ most_picks → last ≡ 2 * n + 1) → or_else (line7 n K 0) (line4 1 last c 0) ≡ centre_refusal n K c
-unfolding centre_refusal
-centre_order n K last c f = or_else_lem (leb n most_picks && between 1 most_sections K) 6 _ ∙ elim (dec_le n most_picks) [
-  | yes l ↦ rw (f l)
-  | no l ↦ simp (lt-leb n most_picks (omega arith))
+pub load_then : (n K : ℕ) (lifts : List ℕ) → table_refusal n K (length lifts) ≡ 0 → load_refusal n K lifts ≡ line15 lifts (line16 n 0)
+unfolding load_refusal table_refusal
+load_then n K lifts e =
+    let a = test_zero (leb n most_picks && between 1 most_sections K) 7 (line14 (length lifts) 0) (omega arith) e in
+    let b = test_zero (eqb (length lifts) table_size) 14 0 (omega arith) a.1 in rw (a.0, b.0) refl
+
+-- neither the number before nor the one behind is 15
+
+one_plain : (t : Bool) (x : ℕ) → x ≢ 15 → test t x 0 ≢ 15
+one_plain true x f e = omega (arith, e)
+one_plain false x f e = f e
+
+pub table_plain : (n K bytes : ℕ) → table_refusal n K bytes ≢ 15
+unfolding table_refusal
+table_plain n K bytes = elim (leb n most_picks && between 1 most_sections K) as (λ t. test t 7 (line14 bytes 0) ≢ 15) [
+  | true ↦ one_plain (eqb bytes table_size) 14 (λ e. omega (arith, e))
+  | false ↦ λ e. omega (arith, e)
 ]
 
-pub split_order : (n K i k entries : ℕ)
-    → or_else (line7 n K 0) (or_else (line1 K k 0) (or_else (line13 k entries 0) (line4 0 n i 0))) ≡ split_refusal n K i k entries
-unfolding split_refusal
-split_order n K i k entries =
-    or_else_lem (leb n most_picks && between 1 most_sections K) 6 _
-    ∙ ap (line7 n K) (or_else_lem (between 1 K k) 0 _ ∙ ap (line1 K k) (or_else_lem (leb k entries) 12 _))
-
-pub record_order : (n K i k : ℕ) → or_else (line7 n K 0) (or_else (line1 K k 0) (line4 0 n i 0)) ≡ record_refusal n K i k
-unfolding record_refusal
-record_order n K i k = or_else_lem (leb n most_picks && between 1 most_sections K) 6 _ ∙ ap (line7 n K) (or_else_lem (between 1 K k) 0 _)
-
-pub letter_order : (n K letter : ℕ) → or_else (line7 n K 0) (line2 letter 0) ≡ letter_refusal n K letter
-unfolding letter_refusal
-letter_order n K letter = or_else_lem (leb n most_picks && between 1 most_sections K) 6 _
-
-pub table_fits : (n K bytes : ℕ) → or_else (line7 n K 0) (line14 bytes 0) ≡ 0 → bytes ≡ table_size
-table_fits n K bytes e =
-    let a = passed n K _ (sym (or_else_lem (leb n most_picks && between 1 most_sections K) 6 (line14 bytes 0)) ∙ e) in
-    eqb-true bytes table_size (test_zero (eqb bytes table_size) 14 0 (omega arith) a.1).0
-
--- 7 and 14; then 15, which has a place, and 16
-pub load_order : (n K number : ℕ) (lifts : List ℕ) → number ≡ or_else (line7 n K 0) (line14 (length lifts) 0)
-    → or_else number (or_else (line15 lifts 0) (line16 n 0)) ≡ load_refusal n K lifts
-unfolding load_refusal
-load_order n K number lifts e =
-    ap (λ x. or_else x (or_else (line15 lifts 0) (line16 n 0))) (e ∙ or_else_lem (leb n most_picks && between 1 most_sections K) 6 _)
-    ∙ two_tests (leb n most_picks && between 1 most_sections K) (eqb (length lifts) table_size) 6 13 _
-    ∙ ap (λ x. line7 n K (line14 (length lifts) x)) (or_else_lem (none_zero lifts) 14 _)
-
-pub show_order : (letters ends : List ℕ) (s : ℕ) → or_else (line4 1 (length ends) s 0) (line6 letters ends 0) ≡ show_refusal letters ends s
-unfolding show_refusal
-show_order letters ends s = or_else_lem (between 1 (length ends) s) 3 _
-
--- A test by itself: the number outside of its bounds, 0 inside
-
-abbrev pub Number : Bool → ℕ → ℕ → Type 0
-Number t number r = r ≡ test t number 0
-
-and_false : (a : Bool) → (a && false) ≡ false
-and_false true = refl
-and_false false = refl
-
-module _ (low high x number : ℕ) where
-  pub below : x < low → Number (between low high x) number number
-  below l = simp (lt-leb low x l)
-
-  pub above : high < x → Number (between low high x) number number
-  above l = simp (lt-leb x high l, and_false (leb low x))
-
-  pub inside : low ≤ x → x ≤ high → Number (between low high x) number 0
-  inside l h = simp (le-leb low x l, le-leb x high h)
-
-module _ (least x number : ℕ) where
-  pub few : x < least → Number (leb least x) number number
-  few l = simp (lt-leb least x l)
-
-  pub enough : least ≤ x → Number (leb least x) number 0
-  enough l = simp (le-leb least x l)
-
-module _ (size x number : ℕ) where
-  pub unequal : (x ≡ size → ⊥) → Number (eqb x size) number number
-  unequal f = simp (ne_eqb x size f)
-
-  pub equal : x ≡ size → Number (eqb x size) number 0
-  equal e = simp (eq-eqb x size e)
-
-pub full : (n : ℕ) → most_picks ≤ n → Number (ltb n most_picks) 8 8
-full n l = simp (le-ltb n most_picks l)
-
-pub roomy : (n : ℕ) → n < most_picks → Number (ltb n most_picks) 8 0
-roomy n l = simp (lt-ltb n most_picks l)
-
-module _ (n K : ℕ) where
-  pub many_picks : most_picks < n → 7 ≡ line7 n K 0
-  many_picks l = simp (lt-leb n most_picks l)
-
-  pub no_sections : n ≤ most_picks → K < 1 → 7 ≡ line7 n K 0
-  no_sections a l = simp (le-leb n most_picks a, lt-leb 1 K l)
-
-  pub many_sections : n ≤ most_picks → 1 ≤ K → most_sections < K → 7 ≡ line7 n K 0
-  many_sections a b l = simp (le-leb n most_picks a, le-leb 1 K b, lt-leb K most_sections l)
-
-  pub sound_state : n ≤ most_picks → 1 ≤ K → K ≤ most_sections → 0 ≡ line7 n K 0
-  sound_state a b l = simp (le-leb n most_picks a, le-leb 1 K b, le-leb K most_sections l)
-
-pub or_first : (a b : ℕ) → (a ≡ 0 → ⊥) → a ≡ or_else a b
-or_first zero b f = absurd (f refl)
-or_first (suc a) b f = refl
+pub begun_plain : (n : ℕ) → line16 n 0 ≢ 15
+begun_plain n = one_plain (eqb n 0) 16 (λ e. omega (arith, e))

@@ -1,5 +1,5 @@
 -- How show meets its promise: the steps of the test for rising ends, and the part that is handed back.
-use Rattle.std.specs.Prelude.{◌≡◌, refl, Bool, true, false, ℕ, zero, suc, ◌+◌, ◌-◌, ◌≤◌, ◌<◌, length, take, drop, get_or}
+use Rattle.std.specs.Prelude.{◌≡◌, refl, false, ℕ, zero, suc, ◌+◌, ◌-◌, ◌≤◌, ◌<◌, length, take, drop, get_or}
 use Rattle.std.proofs.Math.Path.{sym}
 use Rattle.std.proofs.Common.{ap, ◌∙◌, arith, length-drop, drop-cons, eq-eqb, ne_eqb}
 use Rattle.std.proofs.Math.Bool.{decide}
@@ -8,12 +8,14 @@ use Rattle.std.proofs.Math.Decide.{ℕ_discrete}
 use Rattle.std.proofs.Math.Dec.{eqb}
 use Rattle.words.specs.Definitions.{Rising, done, next}
 use Rattle.words.specs.Computed.{rising?, risen_none, risen_next}
-use Rattle.promises.specs.Answers.{gave, reply}
-use Rattle.promises.specs.Refusals.{line6, show_refusal}
+use Rattle.promises.specs.declared.refusal.Refusal.{Refusal}
+use Rattle.promises.specs.Answers.{gave, reply, refusal_says, outcome}
+use Rattle.promises.specs.Refusals.{show_refusal}
 use Rattle.promises.specs.Replies.{section_of, shown, shown_behind}
 use Rattle.promises.specs.Promises.{ShowPromise}
 use Rattle.promises.proofs.RefusalLaws.{show_fits}
 use Rattle.promises.proofs.BookLaws.{unless_zero, unless_not}
+use Rattle.promises.proofs.Outcomes.{outcome_zero, outcome_some}
 
 -- decisions
 
@@ -59,13 +61,6 @@ module _ (letters last j : ℕ) (ends : List ℕ) where
       go [] z = sym none_left
       go (x ∷ l) z = absurd (omega arith)
 
--- the number of line 6
-pub line6_risen : (letters ends : List ℕ) (b : Bool) → b ≡ decide (rising? (length letters) 0 ends) → b ≡ true → 0 ≡ line6 letters ends 0
-line6_risen letters ends b e t = let z : decide (rising? (length letters) 0 ends) ≡ true = sym e ∙ t in rw z
-
-pub line6_fails : (letters ends : List ℕ) (b : Bool) → b ≡ decide (rising? (length letters) 0 ends) → b ≡ false → 6 ≡ line6 letters ends 0
-line6_fails letters ends b e t = let z : decide (rising? (length letters) 0 ends) ≡ false = sym e ∙ t in rw z
-
 -- The part
 
 -- section s begins no later than it ends, and ends within the letters
@@ -77,34 +72,40 @@ risen_at n a ends (next {e = e} {ends = es} m (next k h)) zero l =
     let r = risen_at n e es (next k h) zero (omega arith) in (omega arith, omega (arith, r.0, r.1))
 risen_at n a ends (next {e = e} {ends = es} m h) (suc s) l = risen_at n e es h s (omega arith)
 
-module _ (letters ends : List ℕ) (s number : ℕ) (e : number ≡ show_refusal letters ends s) where
+module _ (letters ends : List ℕ) (s : ℕ) where
   pub record ShowFits : Type 0 where
     pub one : 1 ≤ s
     pub order : get_or (0 ∷ ends) (s - 1) 0 ≤ get_or (0 ∷ ends) s 0
     pub inside : get_or (0 ∷ ends) s 0 ≤ length letters
 
-  pub part_fits : number ≤ 0 → ShowFits
-  part_fits l =
-      let f = show_fits letters ends s (sym e ∙ omega arith) in
+  pub part_fits : show_refusal letters ends s ≡ 0 → ShowFits
+  part_fits e =
+      let f = show_fits letters ends s e in
       let z : suc (s - 1) ≡ s = omega (arith, f.0) in
       let q : get_or (0 ∷ ends) s 0 ≡ get_or ends (s - 1) 0 = ap (λ x. get_or (0 ∷ ends) x 0) (sym z) in
       let r = risen_at (length letters) 0 ends f.2 (s - 1) (omega (arith, f.0, f.1)) in
       record { one = f.0; order = omega (arith, q, r.0); inside = omega (arith, q, r.1) }
 
-  pub show_refused : 0 < number → ShowPromise letters ends s []
-  unfolding shown
-  show_refused l = sym (ap (λ r. r.list) (unless_not (show_refusal letters ends s) [] (reply (gave []) (section_of letters ends s)) (λ z. omega (arith, e, z))))
+  module _ (r : Refusal) (e : refusal_says r ≡ outcome (show_refusal letters ends s)) where
+    pub show_refused : ShowPromise letters ends s []
+    unfolding shown
+    show_refused =
+        sym (ap (λ r. r.list) (unless_not (show_refusal letters ends s) [] (reply (gave []) (section_of letters ends s)) (outcome_some r _ e)))
 
-  pub behind_refused : 0 < number → shown_behind letters ends s ≡ 0
-  unfolding shown_behind
-  behind_refused l = simp (ne_eqb (show_refusal letters ends s) 0 (λ z. omega (arith, e, z)))
+    pub behind_refused : shown_behind letters ends s ≡ 0
+    unfolding shown_behind
+    behind_refused = simp (ne_eqb (show_refusal letters ends s) 0 (outcome_some r _ e))
 
-  pub behind_given : number ≤ 0 → shown_behind letters ends s ≡ get_or (0 ∷ ends) (s - 1) 0
-  unfolding shown_behind
-  behind_given l = simp (eq-eqb (show_refusal letters ends s) 0 (omega (arith, e)))
+  module _ (e : gave [] ≡ outcome (show_refusal letters ends s)) where
+    clear : show_refusal letters ends s ≡ 0
+    clear = outcome_zero (show_refusal letters ends s) e
 
-  pub show_given : number ≤ 0 → (a b : ℕ) → a ≡ get_or (0 ∷ ends) (s - 1) 0 → b ≡ get_or (0 ∷ ends) s 0
-      → ShowPromise letters ends s (take (b - a) (drop a letters))
-  unfolding shown section_of
-  show_given l a b p q =
-      rw (p, q) (sym (ap (λ r. r.list) (unless_zero (show_refusal letters ends s) [] (reply (gave []) (section_of letters ends s)) (omega (arith, e)))))
+    pub behind_given : shown_behind letters ends s ≡ get_or (0 ∷ ends) (s - 1) 0
+    unfolding shown_behind
+    behind_given = simp (eq-eqb (show_refusal letters ends s) 0 clear)
+
+    pub show_given : (a b : ℕ) → a ≡ get_or (0 ∷ ends) (s - 1) 0 → b ≡ get_or (0 ∷ ends) s 0
+        → ShowPromise letters ends s (take (b - a) (drop a letters))
+    unfolding shown section_of
+    show_given a b p q =
+        rw (p, q) (sym (ap (λ r. r.list) (unless_zero (show_refusal letters ends s) [] (reply (gave []) (section_of letters ends s)) clear)))

@@ -1,4 +1,5 @@
 -- The state after a run: every row word and every gathered word by its definition, and the whole of it a function of the book.
+use Rattle.std.proofs.Common.{inl}
 use mathlib.Core.Path.{◌≡◌, refl, sym, ap, ◌∙◌}
 use mathlib.Core.Bool.{Bool, true, false, cond}
 use mathlib.Core.List.{List, [], ◌∷◌, ◌++◌}
@@ -8,10 +9,7 @@ use lib.ListN.{length}
 use Rattle.words.specs.Definitions.{word}
 use Rattle.words.proofs.GatheredWords.{row_is, gathered_word_is}
 use Rattle.promises.specs.declared.Draft.{Draft}
-use Rattle.promises.specs.declared.Started.{Started}
-use Rattle.promises.specs.declared.Fed.{Fed}
-use Rattle.promises.specs.declared.Loaded.{Loaded}
-use Rattle.promises.specs.declared.Marked.{Marked}
+use Rattle.promises.specs.Answers.{Changed, Fed}
 use Rattle.promises.specs.Refusals.{start_refusal, feed_refusal, load_refusal}
 use Rattle.promises.proofs.LiftLaws.{lifted_length}
 use Rattle.promises.specs.Marks.{mark_at, mark_length, set_mark, entries}
@@ -52,7 +50,7 @@ marks_aside d (x ∷ picks) marks = marks_aside (with_pick d x) picks marks
 -- One call: d is the state of b
 
 module _ {d : Draft} {b : Book} (h : Holds d b) (e : d ≡ state_of_book b) where
-  start_state : {K : ℕ} {r : Started} → StartPromise d K r → r.state ≡ state_of_book (cond (start_taken K) (started_book K) b)
+  start_state : {K : ℕ} {r : Changed} → StartPromise d K r → r.state ≡ state_of_book (cond (start_taken K) (started_book K) b)
   unfolding with_picks
   start_state {K} {r} p = go (start_cases K)
     where
@@ -71,7 +69,7 @@ module _ {d : Draft} {b : Book} (h : Holds d b) (e : d ≡ state_of_book b) wher
       go (left t z) = rw t ((p.refuses (λ q. z (sym (feed_number h pick (length before)) ∙ q))).1 ∙ e)
 
   -- a load is taken on an empty row
-  load_state : {lifts : List ℕ} {r : Loaded} → LoadPromise d lifts r → r.state ≡ state_of_book (cond (load_taken b lifts) (loaded_book b lifts) b)
+  load_state : {lifts : List ℕ} {r : Changed} → LoadPromise d lifts r → r.state ≡ state_of_book (cond (load_taken b lifts) (loaded_book b lifts) b)
   unfolding with_picks
   load_state {lifts} {r} p = go (load_case h lifts)
     where
@@ -83,20 +81,20 @@ module _ {d : Draft} {b : Book} (h : Holds d b) (e : d ≡ state_of_book b) wher
       go (left t z) = rw t ((p.refuses (λ q. z (sym (load_number h lifts) ∙ q))).1 ∙ e)
 
   -- mark and back: next and after are state and book where the call is accepted
-  marking_state : {call : Call} {t : Bool} {x : ℕ} {next : Draft} {after : Book} {r : Marked} → Goes d b call t x next after
+  marking_state : {call : Call} {t : Bool} {x : ℕ} {next : Draft} {after : Book} {r : Changed} → Goes d b call t x next after
       → Marking d call (or_refused t x) next r → next ≡ state_of_book after → r.state ≡ state_of_book (write b call)
-  marking_state {call} {t} {x} {next} {after} {r} g p n = elim (ℕ_discrete (refusal_of d.n d.k call) 0) [
+  marking_state {call} {t} {x} {next} {after} {r} g p n = elim (ℕ_discrete (refusal_of d.numbers.n d.numbers.k call) 0) [
     | yes z ↦ go t refl z
-    | no f ↦ p.refuses _ (said_is (p.computes ∙ unless_not _ [] _ f)) ∙ e ∙ ap state_of_book (sym (g.left f))
+    | no f ↦ p.refuses _ (inl (said_is (p.computes ∙ unless_not _ [] _ f))) ∙ e ∙ ap state_of_book (sym (g.left f))
   ]
     where
-      go : (s : Bool) → t ≡ s → refusal_of d.n d.k call ≡ 0 → r.state ≡ state_of_book (write b call)
+      go : (s : Bool) → t ≡ s → refusal_of d.numbers.n d.numbers.k call ≡ 0 → r.state ≡ state_of_book (write b call)
       go true q z = p.stores (said_is (p.computes ∙ unless_zero _ [] _ z) ∙ ap (λ y. or_refused y x) q) ∙ n ∙ ap state_of_book (sym (g.takes z q))
-      go false q z = p.refuses x (said_is (p.computes ∙ unless_zero _ [] _ z) ∙ ap (λ y. or_refused y x) q) ∙ e ∙ ap state_of_book (sym (g.lacks q))
+      go false q z = p.refuses x (inl (said_is (p.computes ∙ unless_zero _ [] _ z) ∙ ap (λ y. or_refused y x) q)) ∙ e ∙ ap state_of_book (sym (g.lacks q))
 
   mark_state : (name : ℕ) → with_mark d name ≡ state_of_book (marked_book b name)
   mark_state name =
-      ap (λ m. with_marks d (entries (set_mark m name d.n))) (held_marks h)
+      ap (λ m. with_marks d (entries (set_mark m name d.numbers.n))) (held_marks h)
       ∙ ap (λ n. with_marks d (entries (set_mark b.marks name n))) h.picks
       ∙ ap (λ s. with_marks s (entries (set_mark b.marks name (length b.row)))) e
       ∙ marks_aside (empty_under b.K b.lifts b.marks) b.row _

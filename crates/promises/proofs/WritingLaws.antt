@@ -1,28 +1,25 @@
 -- How a call meets its promise: from what it computes on any state, its meaning on a state that holds what stands in the book.
-use Rattle.std.specs.Prelude.{◌≡◌, ◌≢◌, ℕ, suc, ◌+◌, ◌/◌, ◌^◌, ◌≤◌, ◌<◌, length, drop, set, replicate}
+use Rattle.std.specs.Prelude.{◌≡◌, ◌≢◌, Ok, Err, ℕ, suc, ◌+◌, ◌/◌, ◌^◌, ◌≤◌, ◌<◌, length, drop, set, replicate}
 use Rattle.std.proofs.Math.Path.{refl, sym, ap}
-use Rattle.std.proofs.Common.{subst, ◌∙◌, arith, pow_mono, length-append, length-set}
+use Rattle.std.proofs.Common.{subst, ◌∙◌, arith, pow_mono, length-append, length-set, get_or-set_same, get_or-set_other}
 use mathlib.Core.List.{List, [], ◌∷◌, ◌++◌}
 use Rattle.std.proofs.Math.Decide.{dec_lt}
 use Rattle.std.proofs.lemmas.List.{length-replicate}
 use Rattle.std.proofs.Math.ListN.{get_or-append}
 use Rattle.std.proofs.Math.Seq.{get_or-append_seam}
-use Rattle.cells.specs.Lanes.{ByCentre, ByPlace}
+use Rattle.cells.specs.declared.Centres.{Centres}
+use Rattle.cells.specs.declared.Places.{Places}
 use Rattle.words.specs.Definitions.{most_picks, most_sections, word}
 use Rattle.words.specs.Computed.{mask as mask_of}
 use Rattle.words.proofs.Laws.{row_lt}
 use Rattle.words.specs.Prefixes.{Agree}
-use Rattle.models.proofs.Stores.{set_here, set_there}
 use Rattle.models.specs.Core.{Arrays, After, append, Appends, Means}
 use Rattle.models.proofs.Core.{append_arrays, means, held_none}
 use Rattle.models.specs.Core.{Holds as ArraysHold}
 use Rattle.promises.specs.declared.Draft.{Draft}
-use Rattle.promises.specs.declared.Started.{Started}
-use Rattle.promises.specs.declared.StartAnswer.TheVariants.{Begun, Refused as StartRefused}
-use Rattle.promises.specs.declared.FeedAnswer.TheVariants.{Taken, Refused as FeedRefused}
-use Rattle.promises.specs.declared.LoadAnswer.{LoadAnswer}
-use Rattle.promises.specs.declared.LoadAnswer.TheVariants.{InForce}
-use Rattle.promises.specs.Answers.{gave, refused, reply, filled, load_says}
+use Rattle.promises.specs.declared.FeedAnswer.TheVariants.{Taken, Refused}
+use Rattle.promises.specs.declared.refusal.Refusal.{Refusal}
+use Rattle.promises.specs.Answers.{gave, refused, reply, filled, number_of, refusal_says, outcome, Changed}
 use Rattle.promises.specs.Refusals.{start_refusal, feed_refusal, load_refusal}
 use Rattle.promises.specs.Lifts.{fixed_lifts, lift_in, lifted_by}
 use Rattle.promises.specs.Marks.{Marks, no_marks, entries}
@@ -31,8 +28,9 @@ use Rattle.promises.specs.Replies.{fed_mask, fed_visits, refusal_of, refusal_to,
 use Rattle.promises.proofs.LiftLaws.{lifted_length, lifted_more}
 use Rattle.promises.proofs.RefusalLaws.{start_fits, FeedFits, feed_fits}
 use Rattle.promises.proofs.BookLaws.{Case, taken, left, feed_cases, load_cases, empty_taken, said_zero, said_not, unless_zero, unless_not}
-use Rattle.promises.specs.State.{draft_in, centres_of, places_of, empty_under, fresh, arrays_of, state_with, with_lifts, code_in, with_pick}
-use Rattle.promises.specs.Lent.{started_as, loaded_as}
+use Rattle.promises.proofs.Outcomes.{outcome_zero, outcome_some, outcome_number, refused_by, accepted_by}
+use Rattle.promises.specs.State.{draft_in, empty_under, fresh, arrays_of, state_with, with_lifts, code_in, with_pick}
+use Rattle.promises.specs.Lent.{answered_as}
 use Rattle.promises.specs.Holds.{Holds}
 use Rattle.promises.specs.Promises.{mask_byte, Writes, StartPromise, FeedPromise, LoadPromise}
 
@@ -42,18 +40,18 @@ module _ {d : Draft} {b : Book} (h : Holds d b) where
   held_fits = omega (arith, h.arrays.fits, lifted_length b.lifts b.row)
 
   -- n is the count of what is read of the row
-  pub held_picks : d.n ≡ length (lifted b)
+  pub held_picks : d.numbers.n ≡ length (lifted b)
   held_picks = h.picks ∙ sym (lifted_length b.lifts b.row)
 
   -- the number of a feed and of a load is the one by the book, which is 0 exactly where the book takes it
 
-  pub feed_number : (pick entries : ℕ) → feed_refusal d.n d.k pick entries ≡ feed_refusal (length b.row) b.K pick entries
+  pub feed_number : (pick entries : ℕ) → feed_refusal d.numbers.n d.numbers.k pick entries ≡ feed_refusal (length b.row) b.K pick entries
   feed_number pick entries = rw (h.picks, h.sections)
 
   pub feed_case : (pick entries : ℕ) → Case (feed_taken b pick entries) (feed_refusal (length b.row) b.K pick entries)
   feed_case pick entries = feed_cases b pick entries held_fits h.least h.most
 
-  pub load_number : (lifts : List ℕ) → load_refusal d.n d.k lifts ≡ load_refusal (length b.row) b.K lifts
+  pub load_number : (lifts : List ℕ) → load_refusal d.numbers.n d.numbers.k lifts ≡ load_refusal (length b.row) b.K lifts
   load_number lifts = rw (h.picks, h.sections)
 
   pub load_case : (lifts : List ℕ) → Case (load_taken b lifts) (load_refusal (length b.row) b.K lifts)
@@ -75,36 +73,31 @@ empty_holds K lifts marks a b = record {
 }
 
 -- an accepted start holds the empty draft
-pub start_holds : {d : Draft} {K : ℕ} {r : Started} → StartPromise d K r → start_refusal K ≡ 0 → Holds r.state (started_book K)
+pub start_holds : {d : Draft} {K : ℕ} {r : Changed} → StartPromise d K r → start_refusal K ≡ 0 → Holds r.state (started_book K)
 start_holds {K = K} p z =
     let k = start_fits K z in
     subst (λ s. Holds s (started_book K)) (sym (p.begins z)) (empty_holds K fixed_lifts no_marks k.0 k.1)
 
-module _ (d : Draft) (K number : ℕ) (e : number ≡ start_refusal K) where
-  pub start_refused : 0 < number → StartPromise d K (record { answer = StartRefused number; state = d })
+module _ (d : Draft) (K : ℕ) where
+  pub start_refused : (r : Refusal) → refusal_says r ≡ outcome (start_refusal K) → StartPromise d K (answered_as (Err r) d)
   unfolding reply_to refusal_of lent
-  start_refused l = record {
-    says = λ b. sym (unless_not (start_refusal K) [] _ (λ z. omega (arith, e, z)) ∙ ap (λ x. reply (refused x) []) (sym e));
-    refuses = λ _. refl;
-    begins = λ z. absurd (omega (arith, e, z));
-  }
+  start_refused r e = record { says = λ b. refused_by r _ e [] _; refuses = λ _. refl; begins = λ z. absurd (outcome_some r _ e z) }
 
-  pub start_begun : number ≤ 0 → StartPromise d K (record { answer = Begun; state = fresh K })
-  unfolding reply_to refusal_of lent found_for start_refusal
-  start_begun l =
-      let z : start_refusal K ≡ 0 = omega (arith, e) in
-      record { says = λ b. sym (unless_zero (start_refusal K) [] _ z); refuses = λ f. absurd (f z); begins = λ _. refl }
+  module _ (e : gave [] ≡ outcome (start_refusal K)) where
+    pub start_begun : StartPromise d K (answered_as (Ok tt) (fresh K))
+    unfolding reply_to refusal_of lent found_for start_refusal
+    start_begun = record { says = λ b. accepted_by _ e [] _; refuses = λ f. absurd (f (outcome_zero (start_refusal K) e)); begins = λ _. refl }
 
-  -- in the arrays of no letter
-  pub start_begun_in : number ≤ 0 → (letters codes lifts marks : List ℕ) (v : ByCentre) (w : ByPlace) → letters ≡ replicate most_picks 0
-      → codes ≡ replicate most_picks 0 → lifts ≡ fixed_lifts → marks ≡ entries no_marks → v ≡ centres_of (fresh K) → w ≡ places_of (fresh K)
-      → StartPromise d K (started_as Begun (draft_in (record { n = 0; k = K; longest = record { 0 = 1 } }) letters codes lifts marks v w))
-  start_begun_in l letters codes lifts marks v w p c t m q r = rw (p, c, t, m, q, r) (start_begun l)
+    -- in the arrays of no letter
+    pub start_begun_in : (letters codes lifts marks : List ℕ) (v : Centres) (w : Places) → letters ≡ replicate most_picks 0
+        → codes ≡ replicate most_picks 0 → lifts ≡ fixed_lifts → marks ≡ entries no_marks → v ≡ (fresh K).centres → w ≡ (fresh K).places
+        → StartPromise d K (answered_as (Ok tt) (draft_in (record { n = 0; k = K; longest = record { 0 = 1 } }) letters codes lifts marks v w))
+    start_begun_in letters codes lifts marks v w p c t m q r = rw (p, c, t, m, q, r) start_begun
 
 -- Feed
 
 -- a state is its numbers, letters, lifts, marks and arrays
-state_as : (s : Draft) (n k : ℕ) (letters lifts marks : List ℕ) (a : Arrays) → s.n ≡ n → s.k ≡ k → s.letters ≡ letters → s.lifts ≡ lifts
+state_as : (s : Draft) (n k : ℕ) (letters lifts marks : List ℕ) (a : Arrays) → s.numbers.n ≡ n → s.numbers.k ≡ k → s.letters ≡ letters → s.lifts ≡ lifts
     → s.marks ≡ marks → arrays_of s ≡ a → s ≡ state_with n k letters lifts marks a
 state_as s n k letters lifts marks a p q l t m r = rw (← p, ← q, ← l, ← t, ← m, ← r)
 
@@ -112,10 +105,10 @@ state_as s n k letters lifts marks a p q l t m r = rw (← p, ← q, ← l, ← 
 stored_more : (letters row : List ℕ) (pick : ℕ) → length row < length letters → Agree (word letters) (word row) (length row)
     → Agree (word (set letters (length row) pick)) (word (row ++ pick ∷ [])) (length (row ++ pick ∷ []))
 stored_more letters row pick room f i l = elim (dec_lt i (length row)) [
-  | yes x ↦ set_there letters (length row) i pick (λ e. omega arith) ∙ f i x ∙ sym (get_or-append row (pick ∷ []) 0 i x)
+  | yes x ↦ get_or-set_other letters (length row) i pick 0 (λ e. omega arith) ∙ f i x ∙ sym (get_or-append row (pick ∷ []) 0 i x)
   | no x ↦
       let z : i ≡ length row = omega (arith, length-append row (pick ∷ [])) in
-      rw z (set_here letters (length row) pick room ∙ sym (get_or-append_seam row pick [] 0))
+      rw z (get_or-set_same letters (length row) pick 0 room ∙ sym (get_or-append_seam row pick [] 0))
 ]
 
 -- one pick more, where there is room for it
@@ -128,57 +121,68 @@ pick_holds {d} {b} h pick l = record {
   picks = ap (λ x. x + 1) h.picks ∙ sym (length-append b.row (pick ∷ []));
   lifts = h.lifts;
   marks = h.marks;
-  room = length-set d.letters d.n pick ∙ h.room;
+  room = length-set d.letters d.numbers.n pick ∙ h.room;
   letters = rw h.picks (stored_more d.letters b.row pick (omega (arith, h.room)) h.letters);
   arrays = rw (lifted_more b.lifts b.row pick) (subst (λ z. ArraysHold b.K (lifted b ++ lift_in b.lifts pick ∷ []) z.arrays) same
       (means b.K (lift_in b.lifts pick) (lifted b) (arrays_of d) [] h.arrays (omega (arith, lifted_length b.lifts b.row))).holds);
 }
   where
-    same : append b.K (length (lifted b)) (lift_in b.lifts pick) (arrays_of d) [] ≡ append d.k d.n (code_in d pick) (arrays_of d) []
+    same : append b.K (length (lifted b)) (lift_in b.lifts pick) (arrays_of d) [] ≡ append d.numbers.k d.numbers.n (code_in d pick) (arrays_of d) []
     same =
         ap (λ k. append k (length (lifted b)) (lift_in b.lifts pick) (arrays_of d) []) (sym h.sections)
-        ∙ ap (λ n. append d.k n (lift_in b.lifts pick) (arrays_of d) []) (sym (held_picks h))
-        ∙ ap (λ t. append d.k d.n (lift_in t pick) (arrays_of d) []) (sym h.lifts)
+        ∙ ap (λ n. append d.numbers.k n (lift_in b.lifts pick) (arrays_of d) []) (sym (held_picks h))
+        ∙ ap (λ t. append d.numbers.k d.numbers.n (lift_in t pick) (arrays_of d) []) (sym h.lifts)
 
 pub byte_mask : (K x : ℕ) → K ≤ most_sections → x < 2 ^ suc K → mask_byte x ≡ x / 2
 byte_mask K x a b = omega (arith, pow_mono {i = suc K} {j = 9} (omega arith))
 
-module _ (d : Draft) (pick : ℕ) (before : List ℕ) (number : ℕ) (e : number ≡ feed_refusal d.n d.k pick (length before)) where
-  feed_refused_means : {b : Book} → Holds d b → 0 < number → Writes b (feed pick before) (reply (refused number) before) d
+module _ (d : Draft) (pick : ℕ) (before : List ℕ) where
+  abbrev number : ℕ
+  number = feed_refusal d.numbers.n d.numbers.k pick (length before)
+
+  feed_refused_means : {b : Book} → Holds d b → number ≢ 0 → Writes b (feed pick before) (reply (refused number) before) d
   unfolding reply_to refusal_of lent found_for write
-  feed_refused_means {b} h l = go (feed_case h pick (length before))
+  feed_refused_means {b} h f = go (feed_case h pick (length before))
     where
       go : Case (feed_taken b pick (length before)) (feed_refusal (length b.row) b.K pick (length before))
           → Writes b (feed pick before) (reply (refused number) before) d
-      go (taken t z) = absurd (omega (arith, e, feed_number h pick (length before), z))
+      go (taken t z) = absurd (f (feed_number h pick (length before) ∙ z))
       go (left t z) = record {
-        replies = sym (unless_not _ before _ z ∙ ap (λ x. reply (refused x) before) (sym (e ∙ feed_number h pick (length before))));
+        replies = sym (unless_not _ before _ z ∙ ap (λ x. reply (refused x) before) (sym (feed_number h pick (length before))));
         holds = rw t h;
       }
 
-  pub feed_refused : 0 < number → FeedPromise d pick before (record { answer = FeedRefused number; state = d }) before
-  feed_refused l = record {
-    meaning = λ b h. feed_refused_means h l;
-    refuses = λ _. (ap refused e, refl, refl);
-    computes = λ z. absurd (omega (arith, e, z));
+  -- the answer has the refusal's number
+  pub feed_refused : (r : Refusal) → refusal_says r ≡ outcome number → (x : ℕ) → x ≡ number_of r
+      → FeedPromise d pick before (answered_as (Refused x) d) before
+  feed_refused r e x q = record {
+    meaning = λ b h. rw is (feed_refused_means h (outcome_some r _ e));
+    refuses = λ _. (ap refused is, refl, refl);
+    computes = λ z. absurd (outcome_some r _ e z);
   }
+    where
+      is : x ≡ number
+      is = q ∙ outcome_number r _ e
 
   -- z is what the core leaves for the pick's code, state the state with it
-  module _ (l : number ≤ 0) (z : After) (state : Draft) (more : state.n ≡ d.n + 1) (same : state.k ≡ d.k)
-      (letters : state.letters ≡ set d.letters d.n pick) (lifts : state.lifts ≡ d.lifts) (marks : state.marks ≡ d.marks)
+  module _ (e : gave [] ≡ outcome number) (z : After) (state : Draft) (more : state.numbers.n ≡ d.numbers.n + 1) (same : state.numbers.k ≡ d.numbers.k)
+      (letters : state.letters ≡ set d.letters d.numbers.n pick) (lifts : state.lifts ≡ d.lifts) (marks : state.marks ≡ d.marks)
       (parts : arrays_of state ≡ z.arrays)
-      (code : ℕ) (is : code ≡ code_in d pick) (a : Appends d.k d.n code (arrays_of d) before z) where
-    fits : FeedFits d.n d.k pick (length before)
-    fits = feed_fits d.n d.k pick (length before) (omega (arith, e))
+      (code : ℕ) (is : code ≡ code_in d pick) (a : Appends d.numbers.k d.numbers.n code (arrays_of d) before z) where
+    clear : number ≡ 0
+    clear = outcome_zero number e
 
-    computed : z ≡ append d.k d.n (code_in d pick) (arrays_of d) before
-    computed = a.computes ∙ ap (λ x. append d.k d.n x (arrays_of d) before) is
+    fits : FeedFits d.numbers.n d.numbers.k pick (length before)
+    fits = feed_fits d.numbers.n d.numbers.k pick (length before) clear
+
+    computed : z ≡ append d.numbers.k d.numbers.n (code_in d pick) (arrays_of d) before
+    computed = a.computes ∙ ap (λ x. append d.numbers.k d.numbers.n x (arrays_of d) before) is
 
     stored : state ≡ with_pick d pick
     unfolding with_pick
     stored =
-        state_as state (d.n + 1) d.k _ _ _ _ more same letters lifts marks
-        (parts ∙ ap (λ x. x.arrays) computed ∙ append_arrays d.k d.n (code_in d pick) (arrays_of d) before)
+        state_as state (d.numbers.n + 1) d.numbers.k _ _ _ _ more same letters lifts marks
+        (parts ∙ ap (λ x. x.arrays) computed ∙ append_arrays d.numbers.k d.numbers.n (code_in d pick) (arrays_of d) before)
 
     feed_taken_means : {b : Book} → Holds d b → Writes b (feed pick before) (reply (gave (mask_byte z.row ∷ z.count ∷ [])) z.visits) state
     unfolding reply_to refusal_of lent found_for write mask_of
@@ -202,16 +206,16 @@ module _ (d : Draft) (pick : ℕ) (before : List ℕ) (number : ℕ) (e : number
 
         go : Case (feed_taken b pick (length before)) (feed_refusal (length b.row) b.K pick (length before))
             → Writes b (feed pick before) (reply (gave (mask_byte z.row ∷ z.count ∷ [])) z.visits) state
-        go (left t f) = absurd (f (omega (arith, e, feed_number h pick (length before))))
+        go (left t f) = absurd (f (sym (feed_number h pick (length before)) ∙ clear))
         go (taken t f) = record {
           replies = rw (bits, m.count, list) (sym (unless_zero _ before _ f));
           holds = rw t (subst (λ s. Holds s (fed_book b pick)) (sym stored) (pick_holds h pick (omega (arith, h.picks, fits.room))));
         }
 
-    pub feed_taken_lem : FeedPromise d pick before (record { answer = Taken (mask_byte z.row) z.count; state = state }) z.visits
+    pub feed_taken_lem : FeedPromise d pick before (answered_as (Taken (mask_byte z.row) z.count) state) z.visits
     feed_taken_lem = record {
       meaning = λ b h. feed_taken_means h;
-      refuses = λ f. absurd (f (omega (arith, e)));
+      refuses = λ f. absurd (f clear);
       computes = λ _. rw (← computed) (record {
         says = refl;
         list = refl;
@@ -224,27 +228,32 @@ module _ (d : Draft) (pick : ℕ) (before : List ℕ) (number : ℕ) (e : number
 
 -- Load
 
-module _ (d : Draft) (lifts : List ℕ) (number : ℕ) (e : number ≡ load_refusal d.n d.k lifts) where
-  load_refused_means : (answer : LoadAnswer) → load_says answer ≡ refusal_to (load lifts) number → number ≢ 0 → {b : Book} → Holds d b
-      → Writes b (load lifts) (reply (load_says answer) []) d
+module _ (d : Draft) (lifts : List ℕ) where
+  abbrev load_number_of : ℕ
+  load_number_of = load_refusal d.numbers.n d.numbers.k lifts
+
+  load_refused_means : load_number_of ≢ 0 → {b : Book} → Holds d b
+      → Writes b (load lifts) (reply (refusal_to (load lifts) load_number_of) []) d
   unfolding reply_to refusal_of lent found_for write
-  load_refused_means answer s f {b} h = go (load_case h lifts)
+  load_refused_means f {b} h = go (load_case h lifts)
     where
-      go : Case (load_taken b lifts) (load_refusal (length b.row) b.K lifts) → Writes b (load lifts) (reply (load_says answer) []) d
-      go (taken t z) = absurd (f (e ∙ load_number h lifts ∙ z))
+      go : Case (load_taken b lifts) (load_refusal (length b.row) b.K lifts)
+          → Writes b (load lifts) (reply (refusal_to (load lifts) load_number_of) []) d
+      go (taken t z) = absurd (f (load_number h lifts ∙ z))
       go (left t z) = record {
-        replies = ap (λ x. reply x []) (s ∙ ap (refusal_to (load lifts)) (e ∙ load_number h lifts)) ∙ sym (said_not (refusal_to (load lifts)) _ [] _ z);
+        replies = ap (λ x. reply (refusal_to (load lifts) x) []) (load_number h lifts) ∙ sym (said_not (refusal_to (load lifts)) _ [] _ z);
         holds = rw t h;
       }
 
-  pub load_refused : (answer : LoadAnswer) → load_says answer ≡ refusal_to (load lifts) number → number ≢ 0 → LoadPromise d lifts (loaded_as answer d)
-  load_refused answer s f = record {
-    meaning = λ b h. load_refused_means answer s f h;
-    refuses = λ _. (s ∙ ap (refusal_to (load lifts)) e, refl);
-    computes = λ z. absurd (f (e ∙ z));
+  pub load_refused : (r : Refusal) → refusal_says r ≡ refusal_to (load lifts) load_number_of → load_number_of ≢ 0
+      → LoadPromise d lifts (answered_as (Err r) d)
+  load_refused r s f = record {
+    meaning = λ b h. rw s (load_refused_means f h);
+    refuses = λ _. (s, refl);
+    computes = λ z. absurd (f z);
   }
 
-  load_taken_means : number ≡ 0 → {b : Book} → Holds d b → Writes b (load lifts) (reply (gave []) []) (with_lifts d lifts)
+  load_taken_means : load_number_of ≡ 0 → {b : Book} → Holds d b → Writes b (load lifts) (reply (gave []) []) (with_lifts d lifts)
   unfolding reply_to refusal_of lent found_for write
   load_taken_means q {b} h = go (load_case h lifts)
     where
@@ -253,7 +262,7 @@ module _ (d : Draft) (lifts : List ℕ) (number : ℕ) (e : number ≡ load_refu
       arrays r = rw r (rw r at h.arrays)
 
       go : Case (load_taken b lifts) (load_refusal (length b.row) b.K lifts) → Writes b (load lifts) (reply (gave []) []) (with_lifts d lifts)
-      go (left t z) = absurd (z (sym (e ∙ load_number h lifts) ∙ q))
+      go (left t z) = absurd (z (sym (load_number h lifts) ∙ q))
       go (taken t z) = record {
         replies = sym (said_zero (refusal_to (load lifts)) _ [] _ z);
         holds = rw t (record {
@@ -269,9 +278,9 @@ module _ (d : Draft) (lifts : List ℕ) (number : ℕ) (e : number ≡ load_refu
         });
       }
 
-  pub load_taken_lem : number ≡ 0 → LoadPromise d lifts (loaded_as InForce (with_lifts d lifts))
+  pub load_taken_lem : load_number_of ≡ 0 → LoadPromise d lifts (answered_as (Ok tt) (with_lifts d lifts))
   load_taken_lem q = record {
     meaning = λ b h. load_taken_means q h;
-    refuses = λ f. absurd (f (sym e ∙ q));
+    refuses = λ f. absurd (f q);
     computes = λ _. (refl, refl);
   }

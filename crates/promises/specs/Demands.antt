@@ -5,11 +5,7 @@ use Rattle.words.specs.Definitions.{most_sections, From, word, centre, length_at
 use Rattle.layout.specs.Record.{record_of}
 use Rattle.models.specs.Stores.{at}
 use Rattle.promises.specs.declared.Draft.{Draft}
-use Rattle.promises.specs.declared.Started.{Started}
-use Rattle.promises.specs.declared.Fed.{Fed}
-use Rattle.promises.specs.declared.Loaded.{Loaded}
-use Rattle.promises.specs.declared.Marked.{Marked}
-use Rattle.promises.specs.Answers.{Said, gave, refused, refused_at, Under, Reply, reply, filled, start_says, feed_says, load_says, mark_says}
+use Rattle.promises.specs.Answers.{Said, gave, refused, refused_at, Under, Reply, reply, filled, done_says, feed_says, Changed, Fed}
 use Rattle.promises.specs.Lifts.{lift_in, FirstZero}
 use Rattle.promises.specs.Book.{Book, Call, load, ask, split, longest, mask, next, fold, lift, blank, lent, lifted, fed_lifted, start_taken, feed_taken, load_taken, mark_taken, back_taken, book_of}
 use Rattle.promises.specs.Listed.{Line, First, NoneMet, listed, sought, lines, show_lines}
@@ -20,7 +16,7 @@ use Rattle.promises.specs.Replies.{replies}
 use Rattle.promises.specs.Runs.{Made, started, fed, loaded, marked, returned, call_of, calls, reply_of, Meets, leaves, Run, last}
 
 -- A run that opens with an accepted start on the stored state d
-pub record Opened (d : Draft) (K : ℕ) (r : Started) (ms : List Made) : Type 0 where
+pub record Opened (d : Draft) (K : ℕ) (r : Changed) (ms : List Made) : Type 0 where
   pub least : 1 ≤ K
   pub most : K ≤ most_sections
   pub run : Run d (started K r ∷ ms)
@@ -60,12 +56,12 @@ pub data PlaceOf : Call → (number place : ℕ) → Type 0 where
 pub record Demand1 (d : Draft) (m : Made) : Type 0 where
   -- of the lines that need no picks and no marks, 1 to 4, 7, 8 and 13 to 16, the first that the call meets gives the number: "there 1 to 4 and 8 still
   -- hold", and document 02's numbers for bad input "hold as 1 to 4 do"
-  pub refuses : (number : ℕ) → First (listed d.n d.k (call_of m)) number → Under (reply_of m).said number
+  pub refuses : (number : ℕ) → First (listed d.numbers.n d.numbers.k (call_of m)) number → Under (reply_of m).said number
   -- with the place that belongs to it, and with none where none does
   pub places : (number place : ℕ) → ((reply_of m).said ≡ refused_at number place)
-      ↔ (First (listed d.n d.k (call_of m)) number × PlaceOf (call_of m) number place)
+      ↔ (First (listed d.numbers.n d.numbers.k (call_of m)) number × PlaceOf (call_of m) number place)
   -- "Each number is given only under its line": a call that meets none of these can be refused only by what is found
-  pub otherwise : NoneMet (listed d.n d.k (call_of m)) → (number : ℕ) → Under (reply_of m).said number
+  pub otherwise : NoneMet (listed d.numbers.n d.numbers.k (call_of m)) → (number : ℕ) → Under (reply_of m).said number
       → Memᴰ number (sought_numbers (call_of m))
   -- "A refusal returns its number only; state and lent buffers keep every byte", whatever the number
   pub keeps : (number : ℕ) → Under (reply_of m).said number → ((reply_of m).list ≡ lent (call_of m)) × (leaves d m ≡ d)
@@ -144,8 +140,8 @@ pub record ShowRight (letters ends : List ℕ) (s : ℕ) (lent at : ℕ × ℕ) 
 
 -- lift, whatever is stored: 7, then 2, else the lift that is stored
 pub record LiftRight (d : Draft) (letter : ℕ) (said : Said) : Type 0 where
-  pub refuses : (x : ℕ) → (said ≡ refused x) ↔ First (listed d.n d.k (ask (lift letter))) x
-  pub gives : NoneMet (listed d.n d.k (ask (lift letter))) → said ≡ gave (lift_in d.lifts letter ∷ [])
+  pub refuses : (x : ℕ) → (said ≡ refused x) ↔ First (listed d.numbers.n d.numbers.k (ask (lift letter))) x
+  pub gives : NoneMet (listed d.numbers.n d.numbers.k (ask (lift letter))) → said ≡ gave (lift_in d.lifts letter ∷ [])
 
 -- Demand 2
 
@@ -204,17 +200,17 @@ pub record Demand3 (d : Draft) (ms : List Made) : Type 0 where
       → Accepted (feed_says r.answer)
       → VisitsRight (fed_lifted (book_of (calls xs)) pick) before (feed_says r.answer) r.state after
   -- "A start or a feed is accepted exactly when the book takes it."
-  pub starts : (xs ys : List Made) (K : ℕ) (r : Started) → ms ≡ xs ++ started K r ∷ ys → Accepted (start_says r.answer) ↔ (start_taken K ≡ true)
+  pub starts : (xs ys : List Made) (K : ℕ) (r : Changed) → ms ≡ xs ++ started K r ∷ ys → Accepted (done_says r.answer) ↔ (start_taken K ≡ true)
   pub feeds : (xs : List Made) (pick : ℕ) (before : List ℕ) (r : Fed) (after : List ℕ) → FeedAmong ms xs pick before r after
       → Accepted (feed_says r.answer) ↔ (feed_taken (book_of (calls xs)) pick (length before) ≡ true)
   -- and so is a load
-  pub loads : (xs ys : List Made) (lifts : List ℕ) (r : Loaded) → ms ≡ xs ++ loaded lifts r ∷ ys
-      → Accepted (load_says r.answer) ↔ (load_taken (book_of (calls xs)) lifts ≡ true)
+  pub loads : (xs ys : List Made) (lifts : List ℕ) (r : Changed) → ms ≡ xs ++ loaded lifts r ∷ ys
+      → Accepted (done_says r.answer) ↔ (load_taken (book_of (calls xs)) lifts ≡ true)
   -- "Both mark calls join the runs of demand 3"
-  pub marks : (xs ys : List Made) (name : ℕ) (r : Marked) → ms ≡ xs ++ marked name r ∷ ys
-      → Accepted (mark_says r.answer) ↔ (mark_taken (book_of (calls xs)) name ≡ true)
-  pub backs : (xs ys : List Made) (name : ℕ) (r : Marked) → ms ≡ xs ++ returned name r ∷ ys
-      → Accepted (mark_says r.answer) ↔ (back_taken (book_of (calls xs)) name ≡ true)
+  pub marks : (xs ys : List Made) (name : ℕ) (r : Changed) → ms ≡ xs ++ marked name r ∷ ys
+      → Accepted (done_says r.answer) ↔ (mark_taken (book_of (calls xs)) name ≡ true)
+  pub backs : (xs ys : List Made) (name : ℕ) (r : Changed) → ms ≡ xs ++ returned name r ∷ ys
+      → Accepted (done_says r.answer) ↔ (back_taken (book_of (calls xs)) name ≡ true)
   -- "no accepted feed makes that number smaller"
   pub onward : (xs : List Made) (pick : ℕ) (before : List ℕ) (r : Fed) (after : List ℕ) → FeedAmong ms xs pick before r after
       → Accepted (feed_says r.answer)
@@ -225,9 +221,9 @@ pub record Demand3 (d : Draft) (ms : List Made) : Type 0 where
 
 -- "The row word of prefix i ..", "The gathered word at place i .. After every call all gathered words hold this."
 pub record WordsRight (d : Draft) (ms : List Made) : Type 0 where
-  pub rows : (i : ℕ) → i ≤ length (row_of ms) → RowWord (sections_of ms) (word (lifted_of ms)) i (at (last d ms).rows i)
+  pub rows : (i : ℕ) → i ≤ length (row_of ms) → RowWord (sections_of ms) (word (lifted_of ms)) i (at (last d ms).places.rows i)
   pub gathered : (i : ℕ) → i ≤ length (row_of ms)
-      → GatheredWord (sections_of ms) (word (lifted_of ms)) (length (row_of ms)) i (at (last d ms).gathered i)
+      → GatheredWord (sections_of ms) (word (lifted_of ms)) (length (row_of ms)) i (at (last d ms).places.gathered i)
 
 -- Of every call on any state; and of every run that opens with an accepted start, each one claim about the whole list
 
@@ -235,7 +231,7 @@ abbrev pub Demand1Holds : Type 0
 Demand1Holds = (d : Draft) (m : Made) → Meets d m → Demand1 d m
 
 abbrev pub NextHolds : Type 0
-NextHolds = (d : Draft) (c : ℕ) (r : Reply) → Reads d (next c) r → Accepted r.said → NextRight d.n c r.said
+NextHolds = (d : Draft) (c : ℕ) (r : Reply) → Reads d (next c) r → Accepted r.said → NextRight d.numbers.n c r.said
 
 abbrev pub SplitHolds : Type 0
 SplitHolds = (d : Draft) (i k : ℕ) (before : List ℕ) (r : Reply) → Reads d (split i k before) r → Accepted r.said → EndsRight i k before r
@@ -245,13 +241,13 @@ RecordHolds = (d : Draft) (i k : ℕ) (before : List ℕ) (r : Reply) → Reads 
     → RecordRight (word d.letters) i k before r
 
 abbrev pub LongestHolds : Type 0
-LongestHolds = (d : Draft) (r : Reply) → Reads d longest r → Accepted r.said → LongestRight d.n r.said
+LongestHolds = (d : Draft) (r : Reply) → Reads d longest r → Accepted r.said → LongestRight d.numbers.n r.said
 
 abbrev pub LiftHolds : Type 0
 LiftHolds = (d : Draft) (letter : ℕ) (r : Reply) → Reads d (lift letter) r → LiftRight d letter r.said
 
 abbrev pub OfEveryRun : (Draft → List Made → Type 0) → Type 0
-OfEveryRun P = (d : Draft) (K : ℕ) (r : Started) (ms : List Made) → Opened d K r ms → P d (started K r ∷ ms)
+OfEveryRun P = (d : Draft) (K : ℕ) (r : Changed) (ms : List Made) → Opened d K r ms → P d (started K r ∷ ms)
 
 abbrev pub Demand1RunHolds : Type 0
 Demand1RunHolds = OfEveryRun (λ d ms. Demand1Run ms)

@@ -11,8 +11,8 @@ use Rattle.promises.specs.State.{arrays_of}
 pub record Holds (d : Draft) (b : Book) : Type 0 where
   pub least : 1 ≤ b.K
   pub most : b.K ≤ most_sections
-  pub sections : d.k ≡ b.K
-  pub picks : d.n ≡ length b.row
+  pub sections : d.numbers.k ≡ b.K
+  pub picks : d.numbers.n ≡ length b.row
   pub lifts : d.lifts ≡ b.lifts
   pub marks : d.marks ≡ entries b.marks
   pub room : length d.letters ≡ most_picks

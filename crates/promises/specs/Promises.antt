@@ -1,7 +1,7 @@
 -- The promise of each public call, as its contract cites it. `meaning`: on a state that holds what stands in the book, the reply
 -- is the one that the book gives. `computes`: on any state whatever, the refusals in their order, and else what is read from the
 -- stored arrays.
-use Rattle.std.specs.Prelude.{◌≡◌, ◌≢◌, List, [], ◌∷◌, ℕ, ◌+◌, ◌/◌, ◌%◌, ◌≤◌, length, drop}
+use Rattle.std.specs.Prelude.{◌≡◌, ◌≢◌, Result, List, [], ◌∷◌, ℕ, ◌+◌, ◌/◌, ◌%◌, ◌≤◌, length, drop}
 use Rattle.std.proofs.Math.Option.{Option}
 use Rattle.words.specs.Definitions.{most_visits, word}
 use Rattle.words.specs.Computed.{NextShorter}
@@ -11,12 +11,8 @@ use Rattle.models.specs.Iterator.{longest_of, radius_of}
 use Rattle.models.specs.Answers.{next_of}
 use Rattle.models.specs.Splitting.{split_by}
 use Rattle.promises.specs.declared.Draft.{Draft}
-use Rattle.promises.specs.declared.Started.{Started}
-use Rattle.promises.specs.declared.Fed.{Fed}
-use Rattle.promises.specs.declared.Loaded.{Loaded}
-use Rattle.promises.specs.declared.Marked.{Marked}
-use Rattle.promises.specs.declared.UnfoldAnswer.{UnfoldAnswer}
-use Rattle.promises.specs.Answers.{Said, gave, refused, Reply, reply, start_says, feed_says, load_says, mark_says, unfold_says, found_numbers}
+use Rattle.promises.specs.declared.refusal.Refusal.{Refusal}
+use Rattle.promises.specs.Answers.{Said, gave, refused, Under, Reply, reply, done_says, number_says, feed_says, Changed, Fed, found_numbers}
 use Rattle.promises.specs.Refusals.{start_refusal, feed_refusal, load_refusal, show_refusal}
 use Rattle.promises.specs.Lifts.{lift_in}
 use Rattle.promises.specs.Marks.{mark_at, mark_length}
@@ -39,8 +35,8 @@ pub record Writes (b : Book) (call : Call) (r : Reply) (state : Draft) : Type 0 
   pub holds : Holds state (write b call)
 
 -- Start, on whatever was stored
-pub record StartPromise (d : Draft) (K : ℕ) (r : Started) : Type 0 where
-  pub says : (b : Book) → reply (start_says r.answer) [] ≡ reply_to b (start K)
+pub record StartPromise (d : Draft) (K : ℕ) (r : Changed) : Type 0 where
+  pub says : (b : Book) → reply (done_says r.answer) [] ≡ reply_to b (start K)
   pub refuses : start_refusal K ≢ 0 → r.state ≡ d
   -- the whole state is written
   pub begins : start_refusal K ≡ 0 → r.state ≡ fresh K
@@ -59,59 +55,59 @@ pub record FeedComputes (d : Draft) (pick : ℕ) (before : List ℕ) (z : After)
 
 pub record FeedPromise (d : Draft) (pick : ℕ) (before : List ℕ) (r : Fed) (after : List ℕ) : Type 0 where
   pub meaning : (b : Book) → Holds d b → Writes b (feed pick before) (reply (feed_says r.answer) after) r.state
-  pub refuses : feed_refusal d.n d.k pick (length before) ≢ 0
-      → (feed_says r.answer ≡ refused (feed_refusal d.n d.k pick (length before))) × (r.state ≡ d) × (after ≡ before)
-  pub computes : feed_refusal d.n d.k pick (length before) ≡ 0
-      → FeedComputes d pick before (append d.k d.n (code_in d pick) (arrays_of d) before) (feed_says r.answer) r.state after
+  pub refuses : feed_refusal d.numbers.n d.numbers.k pick (length before) ≢ 0
+      → (feed_says r.answer ≡ refused (feed_refusal d.numbers.n d.numbers.k pick (length before))) × (r.state ≡ d) × (after ≡ before)
+  pub computes : feed_refusal d.numbers.n d.numbers.k pick (length before) ≡ 0
+      → FeedComputes d pick before (append d.numbers.k d.numbers.n (code_in d pick) (arrays_of d) before) (feed_says r.answer) r.state after
 
 -- Load
 
-pub record LoadPromise (d : Draft) (lifts : List ℕ) (r : Loaded) : Type 0 where
-  pub meaning : (b : Book) → Holds d b → Writes b (load lifts) (reply (load_says r.answer) []) r.state
+pub record LoadPromise (d : Draft) (lifts : List ℕ) (r : Changed) : Type 0 where
+  pub meaning : (b : Book) → Holds d b → Writes b (load lifts) (reply (done_says r.answer) []) r.state
   -- "A refused table leaves the former in force"
-  pub refuses : load_refusal d.n d.k lifts ≢ 0
-      → (load_says r.answer ≡ refusal_to (load lifts) (load_refusal d.n d.k lifts)) × (r.state ≡ d)
-  pub computes : load_refusal d.n d.k lifts ≡ 0 → (load_says r.answer ≡ gave []) × (r.state ≡ with_lifts d lifts)
+  pub refuses : load_refusal d.numbers.n d.numbers.k lifts ≢ 0
+      → (done_says r.answer ≡ refusal_to (load lifts) (load_refusal d.numbers.n d.numbers.k lifts)) × (r.state ≡ d)
+  pub computes : load_refusal d.numbers.n d.numbers.k lifts ≡ 0 → (done_says r.answer ≡ gave []) × (r.state ≡ with_lifts d lifts)
 
 -- Mark and back: found is what the stored marks say, next the state after an accepted call
-pub record Marking (d : Draft) (call : Call) (found : Said) (next : Draft) (r : Marked) : Type 0 where
-  pub meaning : (b : Book) → Holds d b → Writes b call (reply (mark_says r.answer) []) r.state
-  pub computes : reply (mark_says r.answer) [] ≡ unless (refusal_of d.n d.k call) [] (reply found [])
+pub record Marking (d : Draft) (call : Call) (found : Said) (next : Draft) (r : Changed) : Type 0 where
+  pub meaning : (b : Book) → Holds d b → Writes b call (reply (done_says r.answer) []) r.state
+  pub computes : reply (done_says r.answer) [] ≡ unless (refusal_of d.numbers.n d.numbers.k call) [] (reply found [])
   -- whatever the number
-  pub refuses : (number : ℕ) → mark_says r.answer ≡ refused number → r.state ≡ d
-  pub stores : mark_says r.answer ≡ gave [] → r.state ≡ next
+  pub refuses : (number : ℕ) → Under (done_says r.answer) number → r.state ≡ d
+  pub stores : done_says r.answer ≡ gave [] → r.state ≡ next
 
-abbrev pub MarkPromise : (d : Draft) (name : ℕ) (r : Marked) → Type 0
+abbrev pub MarkPromise : (d : Draft) (name : ℕ) (r : Changed) → Type 0
 MarkPromise d name r = Marking d (mark name) (or_fifth_name (marks_of d) name) (with_mark d name) r
 
 -- of any state: an equation of states
-abbrev pub BackPromise : (d : Draft) (name : ℕ) (r : Marked) → Type 0
+abbrev pub BackPromise : (d : Draft) (name : ℕ) (r : Changed) → Type 0
 BackPromise d name r = Marking d (back name) (or_no_mark (marks_of d) name) (cut_to d (mark_length (mark_at (marks_of d) name))) r
 
 -- The calls that only read
 
 -- the next shorter ending by the stored radii and links
 abbrev pub next_held : Draft → (c : ℕ) → Option NextShorter
-next_held d c = next_of d.radius d.next d.n (longest_of d.n d.longest.0) c
+next_held d c = next_of d.centres.radius d.centres.next d.numbers.n (longest_of d.numbers.n d.numbers.longest.0) c
 
 -- the split by the stored row words and radii
 abbrev pub split_held : Draft → (k i : ℕ) → Option (List ℕ)
-split_held d k i = split_by d.rows d.radius d.n (longest_of d.n d.longest.0) k i
+split_held d k i = split_by d.places.rows d.centres.radius d.numbers.n (longest_of d.numbers.n d.numbers.longest.0) k i
 
 -- what is found in the stored arrays, in reply to a query that passes the tests
 unfoldable pub found_in : Draft → Query → Reply
 unfolding or_no_split or_too_long record_of
 found_in d (split i k list) = split_reply (split_held d k i) list
-found_in d longest = gives (longest_of d.n d.longest.0 ∷ [])
-found_in d (mask i) = gives (mask_byte (at d.rows i) ∷ [])
-found_in d (radius c) = gives (radius_of d.radius d.n (longest_of d.n d.longest.0) c ∷ [])
+found_in d longest = gives (longest_of d.numbers.n d.numbers.longest.0 ∷ [])
+found_in d (mask i) = gives (mask_byte (at d.places.rows i) ∷ [])
+found_in d (radius c) = gives (radius_of d.centres.radius d.numbers.n (longest_of d.numbers.n d.numbers.longest.0) c ∷ [])
 found_in d (next c) = reply (or_no_ending (next_held d c)) []
 found_in d (fold i k output) = record_reply (word d.letters) i (split_held d k i) output
 found_in d (lift letter) = gives (lift_in d.lifts letter ∷ [])
 
 unfoldable pub computed_to : Draft → Query → Reply
 unfolding unless_said refusal_of lent found_in
-computed_to d q = unless (refusal_of d.n d.k (ask q)) (lent (ask q)) (found_in d q)
+computed_to d q = unless (refusal_of d.numbers.n d.numbers.k (ask q)) (lent (ask q)) (found_in d q)
 
 -- one promise for all of them
 pub record Reads (d : Draft) (q : Query) (r : Reply) : Type 0 where
@@ -133,8 +129,8 @@ abbrev pub ShowNumberPromise : (letters ends : List ℕ) (s number : ℕ) → Ty
 ShowNumberPromise letters ends s number = number ≡ show_refusal letters ends s
 
 -- the record's bytes; the list before and after
-abbrev pub UnfoldPromise : (bytes before : List ℕ) (r : UnfoldAnswer) (after : List ℕ) → Type 0
-UnfoldPromise bytes before r after = reply (unfold_says r) after ≡ unfold_reply bytes before
+abbrev pub UnfoldPromise : (bytes before : List ℕ) (r : Result ℕ Refusal) (after : List ℕ) → Type 0
+UnfoldPromise bytes before r after = reply (number_says r) after ≡ unfold_reply bytes before
 
 -- one step of a reader: what it yields at a place, and the place after it
 abbrev pub SectionPromise : (bytes : List ℕ) (at : ℕ) (r : Found) → Type 0

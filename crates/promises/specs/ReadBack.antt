@@ -1,5 +1,5 @@
 -- Reading records back (document 02, 2.1 and 2.5), as statements. Their proofs are in proofs/.
-use Rattle.std.specs.Prelude.{◌≡◌, ◌↔◌, List, [], ◌∷◌, map, reverse, ℕ, ◌≤◌, ◌<◌, length, take}
+use Rattle.std.specs.Prelude.{◌≡◌, ◌↔◌, Result, List, [], ◌∷◌, map, reverse, ℕ, ◌≤◌, ◌<◌, length, take}
 use Rattle.words.specs.Definitions.{word, prefix, lengths_back, Named}
 use Rattle.layout.specs.declared.Section.{Section}
 use Rattle.layout.specs.declared.Found.{Found}
@@ -8,8 +8,8 @@ use Rattle.layout.specs.Layout.{Every, Letter, Layout, BreaksAt, Passes}
 use Rattle.layout.specs.Unfolding.{picks_of, Unfolds}
 use Rattle.layout.specs.Yield.{nothing_at, yield_at, walk, Yields}
 use Rattle.promises.specs.declared.Draft.{Draft}
-use Rattle.promises.specs.declared.UnfoldAnswer.{UnfoldAnswer}
-use Rattle.promises.specs.Answers.{Said, gave, refused_at, Under, Reply, filled, unfold_says}
+use Rattle.promises.specs.declared.refusal.Refusal.{Refusal}
+use Rattle.promises.specs.Answers.{Said, gave, refused_at, Under, Reply, filled, number_says}
 use Rattle.promises.specs.Lifts.{lifted_by, Distinct}
 use Rattle.promises.specs.Book.{fold, book_of}
 use Rattle.promises.specs.Listed.{First, NoneMet, unfold_lines}
@@ -38,8 +38,8 @@ pub record UnfoldRight (bytes before : List ℕ) (said : Said) (after : List ℕ
   pub gives : NoneMet (unfold_lines bytes before) → UnfoldSays bytes before said after
 
 abbrev pub UnfoldHolds : Type 0
-UnfoldHolds = (bytes before : List ℕ) (r : UnfoldAnswer) (after : List ℕ) → UnfoldPromise bytes before r after
-    → UnfoldRight bytes before (unfold_says r) after
+UnfoldHolds = (bytes before : List ℕ) (r : Result ℕ Refusal) (after : List ℕ) → UnfoldPromise bytes before r after
+    → UnfoldRight bytes before (number_says r) after
 
 -- a place is given exactly where the bytes are not of the layout, and then it is one
 pub record PlaceRight (bytes : List ℕ) : Type 0 where
@@ -71,8 +71,8 @@ pub record ReadsBack (lifts row : List ℕ) (i k : ℕ) (bytes : List ℕ) : Typ
   pub named : Named (word (lifted_by lifts row)) i k ends
   -- what it unfolds to
   pub picks : List ℕ
-  pub unfolds : (before : List ℕ) (r : UnfoldAnswer) (after : List ℕ) → i ≤ length before → UnfoldPromise bytes before r after
-      → (unfold_says r ≡ gave (i ∷ [])) × (after ≡ filled picks before)
+  pub unfolds : (before : List ℕ) (r : Result ℕ Refusal) (after : List ℕ) → i ≤ length before → UnfoldPromise bytes before r after
+      → (number_says r ≡ gave (i ∷ [])) × (after ≡ filled picks before)
   -- "A folded record unfolds to a draft with the same lifts, its letters possibly others."
   pub lettered : Every Letter picks
   pub alike : lifted_by lifts picks ≡ prefix (word (lifted_by lifts row)) i

@@ -82,6 +82,10 @@ feed_refusal n K pick entries = line7 n K (line2 pick (line3 entries (line8 n 0)
 unfoldable pub load_refusal : (n K : ℕ) (lifts : List ℕ) → ℕ
 load_refusal n K lifts = line7 n K (line14 (length lifts) (line15 lifts (line16 n 0)))
 
+-- 7, 14: of a load before its bytes are looked at
+unfoldable pub table_refusal : (n K bytes : ℕ) → ℕ
+table_refusal n K bytes = line7 n K (line14 bytes 0)
+
 -- 7, 4
 unfoldable pub mask_refusal : (n K i : ℕ) → ℕ
 mask_refusal n K i = line7 n K (line4 0 n i 0)

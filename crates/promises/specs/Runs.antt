@@ -3,21 +3,17 @@
 -- between".
 use Rattle.std.specs.Prelude.{List, [], ◌∷◌, map, ℕ}
 use Rattle.promises.specs.declared.Draft.{Draft}
-use Rattle.promises.specs.declared.Started.{Started}
-use Rattle.promises.specs.declared.Fed.{Fed}
-use Rattle.promises.specs.declared.Loaded.{Loaded}
-use Rattle.promises.specs.declared.Marked.{Marked}
-use Rattle.promises.specs.Answers.{Reply, reply, start_says, feed_says, load_says, mark_says}
+use Rattle.promises.specs.Answers.{Reply, reply, done_says, feed_says, Changed, Fed}
 use Rattle.promises.specs.Book.{Query, Call, start, feed, load, mark, back, ask}
 use Rattle.promises.specs.Promises.{StartPromise, FeedPromise, LoadPromise, MarkPromise, BackPromise, Reads}
 
 -- a call that was made, and what came of it: its result, and its list as it was lent and as it stands afterwards
 pub data Made : Type 0 where
-  started : (K : ℕ) (r : Started) → Made
+  started : (K : ℕ) (r : Changed) → Made
   fed : (pick : ℕ) (before : List ℕ) (r : Fed) (after : List ℕ) → Made
-  loaded : (lifts : List ℕ) (r : Loaded) → Made
-  marked : (name : ℕ) (r : Marked) → Made
-  returned : (name : ℕ) (r : Marked) → Made
+  loaded : (lifts : List ℕ) (r : Changed) → Made
+  marked : (name : ℕ) (r : Changed) → Made
+  returned : (name : ℕ) (r : Changed) → Made
   asked : (q : Query) (r : Reply) → Made
 
 -- its arguments
@@ -34,11 +30,11 @@ calls ms = map call_of ms
 
 -- its answer, and its list afterwards
 unfoldable pub reply_of : Made → Reply
-reply_of (started K r) = reply (start_says r.answer) []
+reply_of (started K r) = reply (done_says r.answer) []
 reply_of (fed pick before r after) = reply (feed_says r.answer) after
-reply_of (loaded lifts r) = reply (load_says r.answer) []
-reply_of (marked name r) = reply (mark_says r.answer) []
-reply_of (returned name r) = reply (mark_says r.answer) []
+reply_of (loaded lifts r) = reply (done_says r.answer) []
+reply_of (marked name r) = reply (done_says r.answer) []
+reply_of (returned name r) = reply (done_says r.answer) []
 reply_of (asked q r) = r
 
 -- the promise of the call's contract, on the state that it is given

@@ -1,7 +1,8 @@
 -- States: of given parts, the one that a start makes, and those that picks make of it.
 use Rattle.std.specs.Prelude.{List, [], ◌∷◌, ℕ, suc, ◌+◌, take, set, replicate}
 use Rattle.words.specs.Definitions.{most_picks}
-use Rattle.cells.specs.Lanes.{ByCentre, ByPlace}
+use Rattle.cells.specs.declared.Centres.{Centres}
+use Rattle.cells.specs.declared.Places.{Places}
 use Rattle.cells.specs.declared.Numbers.{Numbers}
 use Rattle.models.specs.Core.{Arrays, arrays_in, centres_in, places_in, cleared, append}
 use Rattle.promises.specs.declared.Draft.{Draft}
@@ -9,40 +10,15 @@ use Rattle.promises.specs.Lifts.{fixed_lifts, lift_in}
 use Rattle.promises.specs.Marks.{Marks, no_marks, set_mark, drop_longer, entries, marks_in}
 use Rattle.promises.specs.Book.{Book}
 
--- a state of these numbers, letters, codes, lifts, marks and lanes
-abbrev pub draft_in : Numbers → (letters codes lifts marks : List ℕ) → ByCentre → ByPlace → Draft
-draft_in held letters codes lifts marks v w = record {
-  n = held.n;
-  k = held.k;
-  longest = held.longest;
-  letters = letters;
-  codes = codes;
-  lifts = lifts;
-  marks = marks;
-  radius = v.radius;
-  heads = w.heads;
-  lends = v.lends;
-  next = v.next;
-  prev = v.prev;
-  rows = w.rows;
-  gathered = w.gathered;
-}
-
--- n, K and the longest ending's centre
-abbrev pub numbers_of : Draft → Numbers
-numbers_of d = record { n = d.n; k = d.k; longest = d.longest }
-
--- the lanes by centre, and by place
-abbrev pub centres_of : Draft → ByCentre
-centres_of d = record { radius = d.radius; lends = d.lends; next = d.next; prev = d.prev }
-
-abbrev pub places_of : Draft → ByPlace
-places_of d = record { heads = d.heads; rows = d.rows; gathered = d.gathered }
+-- a state of these numbers, letters, codes, lifts, marks and arrays by centre and by place
+abbrev pub draft_in : Numbers → (letters codes lifts marks : List ℕ) → Centres → Places → Draft
+draft_in numbers letters codes lifts marks centres places =
+    record { numbers = numbers; letters = letters; codes = codes; lifts = lifts; marks = marks; centres = centres; places = places }
 
 -- what the iterator and the engine have: all that is stored but n, K, the letters, the lifts and the marks. The iterator's letters are the
 -- codes
 abbrev pub arrays_of : Draft → Arrays
-arrays_of d = arrays_in d.codes (centres_of d) (places_of d) d.longest.0
+arrays_of d = arrays_in d.codes d.centres d.places d.numbers.longest.0
 
 abbrev pub state_with : (n k : ℕ) (letters lifts marks : List ℕ) → Arrays → Draft
 state_with n k letters lifts marks a =
@@ -59,11 +35,11 @@ fresh K = empty_under K fixed_lifts no_marks
 
 -- these lifts, and all else as it is
 abbrev pub with_lifts : Draft → (lifts : List ℕ) → Draft
-with_lifts d lifts = draft_in (numbers_of d) d.letters d.codes lifts d.marks (centres_of d) (places_of d)
+with_lifts d lifts = record d { lifts = lifts }
 
 -- these entries as marks, and all else as it is
 abbrev pub with_marks : Draft → (marks : List ℕ) → Draft
-with_marks d marks = draft_in (numbers_of d) d.letters d.codes d.lifts marks (centres_of d) (places_of d)
+with_marks d marks = record d { marks = marks }
 
 -- a pick's code: its lift in force
 abbrev pub code_in : Draft → (pick : ℕ) → ℕ
@@ -73,7 +49,8 @@ code_in d pick = lift_in d.lifts pick
 unfoldable pub with_pick : Draft → (pick : ℕ) → Draft
 unfolding append
 with_pick d pick =
-    state_with (d.n + 1) d.k (set d.letters d.n pick) d.lifts d.marks (append d.k d.n (code_in d pick) (arrays_of d) []).arrays
+    state_with (d.numbers.n + 1) d.numbers.k (set d.letters d.numbers.n pick) d.lifts d.marks
+    (append d.numbers.k d.numbers.n (code_in d pick) (arrays_of d) []).arrays
 
 -- the picks one after another
 unfoldable pub with_picks : Draft → (picks : List ℕ) → Draft
@@ -92,16 +69,16 @@ marks_of d = marks_in d.marks
 
 -- the name marks the draft's length, and all else is as it is
 abbrev pub with_mark : Draft → (name : ℕ) → Draft
-with_mark d name = with_marks d (entries (set_mark (marks_of d) name d.n))
+with_mark d name = with_marks d (entries (set_mark (marks_of d) name d.numbers.n))
 
 -- the letters of the picks
 abbrev pub picks_of : Draft → List ℕ
-picks_of d = take d.n d.letters
+picks_of d = take d.numbers.n d.letters
 
 -- "all else but marks and lifts to exactly what feeding only those picks would have left": the first m of them, or all where there are fewer
 unfoldable pub cut_to : Draft → (m : ℕ) → Draft
 unfolding with_picks
-cut_to d m = with_picks (empty_under d.k d.lifts (drop_longer m (marks_of d))) (take m (picks_of d))
+cut_to d m = with_picks (empty_under d.numbers.k d.lifts (drop_longer m (marks_of d))) (take m (picks_of d))
 
 -- what the core makes of these codes, one after another
 unfoldable pub append_all : (K n : ℕ) → Arrays → (codes : List ℕ) → Arrays

@@ -1,47 +1,18 @@
 -- A reader's steps yield the record's sections in order, then none.
 use mathlib.Core.Path.{◌≡◌, refl, ap, ◌∙◌}
-use mathlib.Core.Bool.{Bool, true, false, cond}
 use mathlib.Core.List.{List, [], ◌∷◌}
 use Prim.Native.Nat.{ℕ, zero, suc, ◌+◌, ◌≤◌}
 use native.Mathlib.Omega.{arith}
-use lib.Dec.{eqb}
 use lib.ListN.{length}
 use Rattle.layout.specs.declared.Section.{Section}
-use Rattle.layout.specs.declared.Yielded.{Yielded}
-use Rattle.layout.specs.declared.Yielded.TheVariants.{Next, Nothing}
+use Rattle.std.specs.Prelude.{Option, Some, None}
 use Rattle.layout.specs.declared.Found.{Found}
-use Rattle.layout.specs.Record.{Folded}
-use Rattle.layout.specs.Layout.{total}
-use Rattle.layout.specs.Reading.{Reading, whole, breaks, reading}
-use Rattle.layout.specs.Yield.{nothing_at, found_at, section_after, bytes_in, among, yielded, yield_at, on_from, walk}
+use Rattle.layout.specs.Yield.{nothing_at, yield_at, on_from, walk}
 use Rattle.layout.proofs.YieldLaws.{yields_law, yields_none}
 use Rattle.promises.proofs.ReadBack.{section_is}
 use Rattle.reader.specs.declared.Reader.{Reader}
+use Rattle.reader.proofs.Moving.{YieldsAt, none, one, yields}
 use Rattle.reader.specs.Reader.{Steps, over, again, in_order, StepsHold}
-
--- A section is yielded, or none and the place stays
-
-data YieldsAt (at : ℕ) : Found → Type 0 where
-  none : YieldsAt at (nothing_at at)
-  one : (s : Section) (next : ℕ) → YieldsAt at (found_at s next)
-
-either : (at : ℕ) (b : Bool) (x y : Found) → YieldsAt at x → YieldsAt at y → YieldsAt at (cond b x y)
-either at true x y p q = p
-either at false x y p q = q
-
-among_yields : (given first a : ℕ) (fs : List Folded) (sought : ℕ) → YieldsAt given (among given first a fs sought)
-unfolding among
-among_yields given first a [] sought = none
-among_yields given first a (f ∷ fs) sought =
-    either given (eqb sought first) _ _ (one (section_after a f.len) (first + bytes_in f)) (among_yields given (first + bytes_in f) (a + f.len) fs sought)
-
-yields : (bytes : List ℕ) (at : ℕ) → YieldsAt at (yield_at bytes at)
-unfolding yield_at yielded
-yields bytes at = go (reading bytes)
-  where
-    go : (r : Reading) → YieldsAt at (yielded r at)
-    go (breaks place) = none
-    go (whole picks fs) = either at (eqb (total fs) picks) _ _ (among_yields at _ 0 fs _) none
 
 -- Walks
 
@@ -58,17 +29,17 @@ walk_more bytes zero more at h = refl
 walk_more bytes (suc steps) zero at h = absurd (omega arith)
 walk_more bytes (suc steps) (suc more) at h = go (yield_at bytes at).yielded _ _ (walk_more bytes steps more (yield_at bytes at).next (omega arith))
   where
-    go : (x : Yielded) (l m : List Section) → in_order steps l ≡ in_order steps m → in_order (suc steps) (on_from x l) ≡ in_order (suc steps) (on_from x m)
-    go (Next s) l m e = ap (λ t. Next s ∷ t) e
-    go Nothing l m e = refl
+    go : (x : Option Section) (l m : List Section) → in_order steps l ≡ in_order steps m → in_order (suc steps) (on_from x l) ≡ in_order (suc steps) (on_from x m)
+    go (Some s) l m e = ap (λ t. Some s ∷ t) e
+    go None l m e = refl
 
 -- what steps yield is what a walk finds, then none
-step_on : (bytes : List ℕ) (at steps : ℕ) (xs : List Yielded) (y : Found) → YieldsAt at y → yield_at bytes at ≡ y
+step_on : (bytes : List ℕ) (at steps : ℕ) (xs : List (Option Section)) (y : Found) → YieldsAt at (length bytes) y → yield_at bytes at ≡ y
     → xs ≡ in_order steps (walk bytes steps y.next) → y.yielded ∷ xs ≡ in_order (suc steps) (on_from y.yielded (walk bytes steps y.next))
-step_on bytes at steps xs y none e h = ap (λ l. Nothing ∷ l) (h ∙ ap (in_order steps) (walk_none bytes at steps e))
-step_on bytes at steps xs y (one s next) e h = ap (λ l. Next s ∷ l) h
+step_on bytes at steps xs y none e h = ap (λ l. None ∷ l) (h ∙ ap (in_order steps) (walk_none bytes at steps e))
+step_on bytes at steps xs y (one s next l m) e h = ap (λ l. Some s ∷ l) h
 
-steps_walk : (r t : Reader) (xs : List Yielded) → Steps r xs t → xs ≡ in_order (length xs) (walk r.bytes.now (length xs) r.at)
+steps_walk : (r t : Reader) (xs : List (Option Section)) → Steps r xs t → xs ≡ in_order (length xs) (walk r.bytes.now (length xs) r.at)
 unfolding walk
 steps_walk r t [] over = refl
 steps_walk r t (x ∷ xs) (again {s = s} p q) =

@@ -1,14 +1,17 @@
 -- The check for numbers 11 and 12, as the code makes it: the place of a number's first digit, and the three ways of the check.
-use Rattle.std.specs.Prelude.{◌≡◌, refl, Bool, true, false, ◌&&◌, cond, List, ℕ, zero, suc, ◌-◌, ◌≤◌, ◌<◌, eqb, get_or}
-use Rattle.std.proofs.Common.{◌∙◌, arith, eq-eqb, ne_eqb}
+use Rattle.std.specs.Prelude.{◌≡◌, refl, Bool, true, false, ◌&&◌, cond, List, ℕ, zero, suc, ◌-◌, ◌≤◌, ◌<◌, eqb, length, take, get_or, Result, Ok, Err}
+use Rattle.std.proofs.Common.{◌∙◌, arith, eq-eqb, ne_eqb, length-take-le, get_or-take}
+use Rattle.std.proofs.Math.Decide.{dec_lt, ℕ_discrete}
+use Rattle.std.proofs.Math.ListN.{get_or-eq_default}
 use Rattle.std.proofs.Math.Option.{Option, some, none}
-use Rattle.layout.specs.Record.{Folded}
+use Rattle.words.proofs.Cases.{clash}
 use Rattle.layout.specs.Layout.{total}
 use Rattle.layout.specs.Reading.{State, in_picks, in_count, in_length, in_half, closed, start, run, reach}
 use Rattle.layout.specs.Reading.{is_digit, number_at, Reading, whole, breaks, reading_of, reading}
-use Rattle.reader.specs.declared.step.Scan.{Scan}
-use Rattle.reader.specs.declared.scan.Checked.{Checked}
-use Rattle.reader.specs.Numbers.{at_end, numbers_of}
+use Rattle.reader.specs.declared.step.Totals.{Totals}
+use Rattle.promises.specs.declared.refusal.Refusal.{Refusal}
+use Rattle.promises.specs.declared.refusal.Refusal.TheVariants.{NoRecord, Unequal}
+use Rattle.reader.specs.ScanCode.{scanned}
 
 -- A digit behind a digit
 
@@ -42,57 +45,117 @@ unfolding number_at
 number_zero bytes zero l = refl
 number_zero bytes (suc i) l = absurd (omega arith)
 
+-- The place of a number's first digit
+
+number_itself : (bytes : List ℕ) (place : ℕ) → is_digit (get_or bytes place 0) ≡ false → place ≡ number_at bytes place
+unfolding number_at
+number_itself bytes zero e = refl
+number_itself bytes (suc i) e = simp e (go (is_digit (get_or bytes i 0)))
+  where
+    go : (d : Bool) → suc i ≡ cond (d && false) (number_at bytes i) (suc i)
+    go true = refl
+    go false = refl
+
+-- before i no digit, from there on nothing but digits up to the place
+number_from : (bytes : List ℕ) (place i : ℕ) → is_digit (get_or bytes place 0) ≡ true → i ≤ place
+    → ((k : ℕ) → i ≤ k → k < place → is_digit (get_or bytes k 0) ≡ true) → (0 < i → is_digit (get_or bytes (i - 1) 0) ≡ false)
+    → i ≡ number_at bytes place
+unfolding number_at
+number_from bytes zero i e h on start' = omega arith
+number_from bytes (suc j) i e h on start' = elim (ℕ_discrete i (suc j)) [
+  | yes x ↦
+      let z : i - 1 ≡ j = omega arith in
+      let f : is_digit (get_or bytes j 0) ≡ false = rw z at (start' (omega arith)) in
+      x ∙ simp (f, e)
+  | no x ↦
+      let d : is_digit (get_or bytes j 0) ≡ true = on j (omega arith) (omega arith) in
+      simp (d, e) (number_from bytes j i d (omega arith) (λ k a b. on k a (omega arith)) start')
+]
+
+-- there is no digit outside
+digit_within : (bytes : List ℕ) (place b : ℕ) → b ≡ get_or bytes place 0 → is_digit b ≡ true → place < length bytes
+unfolding is_digit
+digit_within bytes place b e f = elim (dec_lt place (length bytes)) [
+  | yes x ↦ x
+  | no x ↦ let z : b ≡ 0 = e ∙ get_or-eq_default bytes 0 (omega arith) in clash (cc (rw z at f))
+]
+
+-- i is the first of the digits at the end of what stands before the place, b the byte there
+module _ (bytes : List ℕ) (place b : ℕ) (e : b ≡ get_or bytes place 0) where
+  pub number_back : (i : ℕ) → is_digit b ≡ true → i ≤ length (take place bytes)
+      → ((k : ℕ) → i ≤ k → k < length (take place bytes) → is_digit (get_or (take place bytes) k 0) ≡ true)
+      → (0 < i → is_digit (get_or (take place bytes) (i - 1) 0) ≡ false)
+      → i ≡ number_at bytes place
+  number_back i f h on start' =
+      let l : place < length bytes = digit_within bytes place b e f in
+      let n : length (take place bytes) ≡ place = length-take-le place bytes (omega arith) in
+      number_from bytes place i (rw e at f) (omega arith)
+      (λ k x y. rw (get_or-take place bytes k 0 y) at (on k x (omega arith)))
+      (λ x. rw (get_or-take place bytes (i - 1) 0 (omega arith)) at (start' x))
+
+  pub number_own : is_digit b ≡ false → place ≡ number_at bytes place
+  number_own f = number_itself bytes place (rw e at f)
+
 -- The check
 
 -- "11, with the place ..; 12, after 11, lengths not adding up to the picks"
-unfoldable pub checked_of : Reading → Checked
-checked_of (breaks place) = record { number = 11; place = place; picks = 0 }
-checked_of (whole picks fs) =
-    cond (eqb (total fs) picks) (record { number = 0; place = 0; picks = picks }) (record { number = 12; place = 0; picks = 0 })
+unfoldable pub checked_of : Reading → Result ℕ Refusal
+checked_of (breaks place) = Err (NoRecord place)
+checked_of (whole picks fs) = cond (eqb (total fs) picks) (Ok picks) (Err Unequal)
 
--- the phase says whether a whole record was read
-data Ends : Option State → Type 0 where
-  shut : {p : ℕ} {fs : List Folded} → Ends (some (closed p fs))
-  other : (o : Option State) → ((numbers_of o).phase ≡ at_end → ⊥) → ((place : ℕ) → reading_of place o ≡ breaks place) → Ends o
+-- its ways, by how the reading ended: t are a whole record's totals
+module _ (place k : ℕ) where
+  check_passes : (o : Option State) (t : Totals) → Ok t ≡ scanned o k → t.sum ≡ t.picks → Ok t.picks ≡ checked_of (reading_of place o)
+  unfolding reading_of checked_of
+  check_passes none t e f = clash cc
+  check_passes (some (in_picks v)) t e f = clash cc
+  check_passes (some (in_count p v)) t e f = clash cc
+  check_passes (some (in_length p c fs v)) t e f = clash cc
+  check_passes (some (in_half p c fs len half)) t e f = clash cc
+  check_passes (some (closed p fs)) t e f =
+      let z : t ≡ record { picks = p; sum = total fs } = cc in rw z (simp (eq-eqb (total fs) p (rw z at f)))
 
-ends : (o : Option State) → Ends o
-unfolding reading_of
-ends none = other none (λ e. omega arith) (λ i. refl)
-ends (some (in_picks v)) = other (some (in_picks v)) (λ e. omega arith) (λ i. refl)
-ends (some (in_count p v)) = other (some (in_count p v)) (λ e. omega arith) (λ i. refl)
-ends (some (in_length p c fs v)) = other (some (in_length p c fs v)) (λ e. omega arith) (λ i. refl)
-ends (some (in_half p c fs len half)) = other (some (in_half p c fs len half)) (λ e. omega arith) (λ i. refl)
-ends (some (closed p fs)) = shut
+  check_unequal : (o : Option State) (t : Totals) → Ok t ≡ scanned o k → (t.sum ≡ t.picks → ⊥) → Err Unequal ≡ checked_of (reading_of place o)
+  unfolding reading_of checked_of
+  check_unequal none t e f = clash cc
+  check_unequal (some (in_picks v)) t e f = clash cc
+  check_unequal (some (in_count p v)) t e f = clash cc
+  check_unequal (some (in_length p c fs v)) t e f = clash cc
+  check_unequal (some (in_half p c fs len half)) t e f = clash cc
+  check_unequal (some (closed p fs)) t e f =
+      let z : t ≡ record { picks = p; sum = total fs } = cc in simp (ne_eqb (total fs) p (rw z at f))
 
-check_passes : {o : Option State} (place : ℕ) → Ends o → (numbers_of o).phase ≡ at_end → (numbers_of o).sum ≡ (numbers_of o).picks
-    → record { number = 0; place = 0; picks = (numbers_of o).picks } ≡ checked_of (reading_of place o)
-unfolding reading_of checked_of
-check_passes place (shut {p = p} {fs = fs}) f g = simp (eq-eqb (total fs) p g)
-check_passes place (other o n h) f g = absurd (n f)
+  check_broken : (o : Option State) (stop : ℕ) → Err stop ≡ scanned o k → Err (NoRecord place) ≡ checked_of (reading_of place o)
+  unfolding reading_of checked_of
+  check_broken none stop e = refl
+  check_broken (some (in_picks v)) stop e = refl
+  check_broken (some (in_count p v)) stop e = refl
+  check_broken (some (in_length p c fs v)) stop e = refl
+  check_broken (some (in_half p c fs len half)) stop e = refl
+  check_broken (some (closed p fs)) stop e = clash cc
 
-check_unequal : {o : Option State} (place : ℕ) → Ends o → (numbers_of o).phase ≡ at_end → ((numbers_of o).sum ≡ (numbers_of o).picks → ⊥)
-    → record { number = 12; place = 0; picks = 0 } ≡ checked_of (reading_of place o)
-unfolding reading_of checked_of
-check_unequal place (shut {p = p} {fs = fs}) f g = simp (ne_eqb (total fs) p g)
-check_unequal place (other o n h) f g = absurd (n f)
+-- it broke off after as many bytes as can be read
+stops : (o : Option State) (k stop : ℕ) → Err stop ≡ scanned o k → stop ≡ k
+stops none k stop e = cc
+stops (some (in_picks v)) k stop e = cc
+stops (some (in_count p v)) k stop e = cc
+stops (some (in_length p c fs v)) k stop e = cc
+stops (some (in_half p c fs len half)) k stop e = cc
+stops (some (closed p fs)) k stop e = clash cc
 
-check_broken : {o : Option State} (place : ℕ) → Ends o → ((numbers_of o).phase ≡ at_end → ⊥)
-    → record { number = 11; place = place; picks = 0 } ≡ checked_of (reading_of place o)
-unfolding checked_of
-check_broken place shut f = absurd (f refl)
-check_broken place (other o n h) f = rw (h place)
-
--- s are the numbers at the record's end
-module _ (bytes : List ℕ) (s : Scan) (e : s ≡ numbers_of (run start bytes)) where
-  pub passes_as : s.phase ≡ at_end → s.sum ≡ s.picks → record { number = 0; place = 0; picks = s.picks } ≡ checked_of (reading bytes)
+module _ (bytes : List ℕ) where
+  pub passes_as : (t : Totals) → Ok t ≡ scanned (run start bytes) (reach start bytes) → t.sum ≡ t.picks → Ok t.picks ≡ checked_of (reading bytes)
   unfolding reading
-  passes_as f g = rw e (check_passes (number_at bytes (reach start bytes)) (ends (run start bytes)) (rw e at f) (rw e at g))
+  passes_as t e f = check_passes (number_at bytes (reach start bytes)) (reach start bytes) (run start bytes) t e f
 
-  pub unequal_as : s.phase ≡ at_end → (s.sum ≡ s.picks → ⊥) → record { number = 12; place = 0; picks = 0 } ≡ checked_of (reading bytes)
+  pub unequal_as : (t : Totals) → Ok t ≡ scanned (run start bytes) (reach start bytes) → (t.sum ≡ t.picks → ⊥)
+      → Err Unequal ≡ checked_of (reading bytes)
   unfolding reading
-  unequal_as f g = check_unequal (number_at bytes (reach start bytes)) (ends (run start bytes)) (rw e at f) (rw e at g)
+  unequal_as t e f = check_unequal (number_at bytes (reach start bytes)) (reach start bytes) (run start bytes) t e f
 
-  pub broken_as : (stop place : ℕ) → (s.phase ≡ at_end → ⊥) → stop ≡ reach start bytes → place ≡ number_at bytes stop
-      → record { number = 11; place = place; picks = 0 } ≡ checked_of (reading bytes)
+  pub broken_as : (stop place : ℕ) → Err stop ≡ scanned (run start bytes) (reach start bytes) → place ≡ number_at bytes stop
+      → Err (NoRecord place) ≡ checked_of (reading bytes)
   unfolding reading
-  broken_as stop place f g h = rw (h, g) (check_broken (number_at bytes (reach start bytes)) (ends (run start bytes)) (rw e at f))
+  broken_as stop place e f =
+      let k = stops (run start bytes) (reach start bytes) stop e in
+      rw (f, k) (check_broken (number_at bytes (reach start bytes)) (reach start bytes) (run start bytes) stop e)

@@ -1,26 +1,24 @@
 -- What a lent list holds while a record's picks are stored in it: each letter of a half goes to its pick and to the mirrored one.
-use Rattle.std.specs.Prelude.{◌≡◌, refl, cond, List, [], ◌∷◌, ◌++◌, ℕ, ◌+◌, ◌-◌, ◌/◌, ◌≤◌, ◌<◌, eqb, length, drop, get_or, set}
-use Rattle.std.proofs.Common.{sym, ap, ◌∙◌, arith, length-append, length-drop, length-set, ext_get_or, get_or-append-add, get_or-set_same, get_or-set_other, get_or-drop}
+use Rattle.std.specs.Prelude.{◌≡◌, refl, List, [], ◌∷◌, ◌++◌, ℕ, ◌+◌, ◌-◌, ◌/◌, ◌≤◌, ◌<◌, length, drop, get_or, set}
+use Rattle.std.proofs.Common.{sym, ap, ◌∙◌, arith, length-append, length-drop, length-set, ext_get_or, get_or-set_same, get_or-set_other, get_or-drop}
 use Rattle.std.proofs.Math.Option.{Option, some, none}
 use Rattle.std.proofs.Math.Decide.{dec_lt, ℕ_discrete}
 use Rattle.std.proofs.Math.ListN.{get_or-append}
-use Rattle.std.proofs.lemmas.List.{get_or_at}
+use Rattle.std.proofs.lemmas.List.{get_or_at, get_or-append_right}
 use Rattle.layout.specs.Record.{Folded}
 use Rattle.layout.specs.Layout.{Every, Fits, total}
 use Rattle.layout.specs.Unfolding.{unfolded, picks_of}
 use Rattle.layout.specs.Reading.{State, in_picks, in_count, in_length, in_half, closed}
-use Rattle.layout.proofs.Entries.{length_snoc}
 use Rattle.layout.proofs.UnfoldLaws.{unfolded_low, unfolded_high, picks_length, picks_snoc}
 use Rattle.layout.proofs.Places.{total_snoc}
 use Rattle.promises.specs.Answers.{filled}
-use Rattle.reader.specs.declared.step.Scan.{Scan}
-use Rattle.reader.specs.Numbers.{at_half}
+use Rattle.reader.specs.declared.step.State.{State as Scan}
+use Rattle.reader.specs.declared.step.State.TheVariants.{InHalf}
 
--- the stores of a step from s to a phase by the byte b: those of a letter, where the step stays in the half
-unfoldable pub put : List ℕ → Scan → (phase b : ℕ) → List ℕ
-put l s phase b = cond (eqb s.phase at_half)
-    (cond (eqb phase at_half) (set (set l (s.sum + s.letters) b) (s.sum + s.number - 1 - s.letters) b) l)
-    l
+-- the stores of a step from s to t by the byte b: those of a letter, where the step stays in the half
+unfoldable pub put : List ℕ → (s t : Scan) → (b : ℕ) → List ℕ
+put l (InHalf r len k) (InHalf q m j) b = set (set l (r.sum + k) b) (r.sum + len - 1 - k) b
+put l s t b = l
 
 -- l is l₀ with picks stored: the first `base` are those of `done`; of the next `len`, a section's, those that the letters of its half so
 -- far say; nothing behind them is changed
@@ -75,13 +73,13 @@ filled_letter {l₀} {l} {base} {len} {done} {half} b h room = record {
   low = λ j k a c e. elim (dec_lt k (length half)) [
     | yes m ↦ two_other l x y b j (λ q. omega arith) (λ q. omega arith) ∙ h.low j k a m e ∙ sym (old k m)
     | no m ↦
-        let z : k ≡ length half = omega (arith, length_snoc half b) in
+        let z : k ≡ length half = omega (arith, length-append half (b ∷ [])) in
         two_first l x y b j (omega (arith, h.same)) (omega arith) ∙ sym (new k z)
   ];
   high = λ j k a c e. elim (dec_lt k (length half)) [
     | yes m ↦ two_other l x y b j (λ q. omega arith) (λ q. omega arith) ∙ h.high j k a m e ∙ sym (old k m)
     | no m ↦
-        let z : k ≡ length half = omega (arith, length_snoc half b) in
+        let z : k ≡ length half = omega (arith, length-append half (b ∷ [])) in
         two_second l x y b j (omega (arith, h.same)) (omega arith) ∙ sym (new k z)
   ];
   rest = λ j a. two_other l x y b j (λ q. omega arith) (λ q. omega arith) ∙ h.rest j a;
@@ -101,9 +99,6 @@ filled_letter {l₀} {l} {base} {len} {done} {half} b h room = record {
 
 -- A section read whole
 
-get_d_behind : (u v : List ℕ) (j i : ℕ) → j ≡ length u + i → get_or (u ++ v) j 0 ≡ get_or v i 0
-get_d_behind u v j i e = rw e (get_or-append-add u v i 0)
-
 filled_section : {l₀ l : List ℕ} {base : ℕ} {done : List ℕ} (f : Folded) → Fits f → length done ≡ base
     → Filled l₀ l base f.len done f.half → Filled l₀ l (base + f.len) 0 (done ++ unfolded f) []
 filled_section {l₀} {l} {base} {done} f k e h = record {
@@ -112,7 +107,7 @@ filled_section {l₀} {l} {base} {done} f k e h = record {
     | yes x ↦ h.front j a x ∙ sym (get_or-append done (unfolded f) 0 j (omega arith))
     | no x ↦
         let i = j - base in
-        within j i a (omega arith) (omega arith) ∙ sym (get_d_behind done (unfolded f) j i (omega arith))
+        within j i a (omega arith) (omega arith) ∙ sym (get_or-append_right done (unfolded f) base j 0 e (omega arith))
   ];
   low = λ j k a b e. absurd (omega arith);
   high = λ j k a b e. absurd (omega arith);
@@ -147,7 +142,7 @@ filled_all {l₀} {l} {base} u e f h = ext_get_or 0 l (filled u l₀) n (λ j a.
           let i = j - length u in
           let z : j ≡ length u + i = omega arith in
           h.rest j (omega arith)
-          ∙ sym (get_d_behind u (drop (length u) l₀) j i z ∙ get_or-drop (length u) l₀ i 0 ∙ ap (λ k. get_or l₀ k 0) (sym z))
+          ∙ sym (get_or-append_right u (drop (length u) l₀) (length u) j 0 refl (omega arith) ∙ get_or-drop (length u) l₀ i 0 ∙ ap (λ k. get_or l₀ k 0) (sym z))
     ]
 
 -- In each state of the reading

@@ -2,7 +2,7 @@
 pub mod Reader
 -- the reading in numbers
 pub mod Numbers
--- how the code goes its way: a step, the loops over the bytes, the check
+-- how the code goes its way: the loops over the bytes, the check
 pub mod StepCode
 pub mod ScanCode
 pub mod CheckCode
@@ -12,4 +12,5 @@ pub mod Tracking
 -- the picks in a list
 pub mod Filling
 pub mod FillCode
+pub mod StoreCode
 pub mod UnfoldCode

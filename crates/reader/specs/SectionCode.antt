@@ -1,47 +1,42 @@
 -- The search for the section at a place, as the code makes it while it reads a record.
-use Rattle.std.specs.Prelude.{◌≡◌, Bool, true, false, cond, ℕ, eqb}
-use Rattle.std.proofs.Math.Path.{sym}
-use Rattle.std.proofs.Common.{◌∙◌}
-use Rattle.layout.specs.declared.Section.{Section}
+use Rattle.std.specs.Prelude.{Bool, cond, ℕ, eqb, Option, Some, None}
 use Rattle.layout.specs.declared.Found.{Found}
 use Rattle.layout.specs.Yield.{section_after, nothing_at, found_at}
-use Rattle.reader.specs.declared.step.Scan.{Scan}
-use Rattle.reader.specs.Numbers.{at_length, at_half, at_end}
-
--- whether a step from the phase a to the phase b has read a section whole
-abbrev pub completes : (a b : ℕ) → Bool
-completes a b = cond (eqb a at_half) (cond (eqb b at_length) true (eqb b at_end)) false
+use Rattle.reader.specs.declared.step.Sections.{Sections}
+use Rattle.reader.specs.declared.step.Totals.{Totals}
+use Rattle.reader.specs.declared.step.State.{State}
+use Rattle.reader.specs.declared.step.State.TheVariants.{InLength, InHalf, Closed}
+use Rattle.reader.specs.declared.section.Search.{Search}
+use Rattle.reader.specs.Numbers.{totals}
 
 -- whether the section just read is the one sought: it begins at the place, or it is the first and the place is 0
 abbrev pub sought : (at from whole : ℕ) → Bool
 sought at from whole = cond (eqb at 0) (eqb whole 0) (eqb at from)
 
--- what is found after a step from s to a phase: the section that it completes, where that is sought
-unfoldable pub noted : Found → Scan → (phase at from next : ℕ) → Found
-unfolding section_after
-noted found s phase at from next =
-    cond (completes s.phase phase) (cond (sought at from s.whole) (found_at (section_after s.sum s.number) next) found) found
+-- what is found after a step from s to t: the section of len picks that it reads whole, where that is sought
+abbrev pub noted_section : Found → Sections → (len at from next : ℕ) → Found
+noted_section found r len at from next = cond (sought at from r.whole) (found_at (section_after r.sum len) next) found
 
--- the first byte of the section being read, after a step from the phase a to the phase b
-unfoldable pub begun : (from a b next : ℕ) → ℕ
-begun from a b next = cond (eqb b at_length) (cond (eqb a at_length) from next) from
+unfoldable pub noted : Found → (s t : State) → (at from next : ℕ) → Found
+unfolding section_after
+noted found (InHalf r len k) (InLength q v) at from next = noted_section found r len at from next
+noted found (InHalf r len k) (Closed t) at from next = noted_section found r len at from next
+noted found s t at from next = found
+
+-- the first byte of the section being read, after a step from s to t
+unfoldable pub begun : (from : ℕ) → (s t : State) → (next : ℕ) → ℕ
+begun from (InLength q u) (InLength r v) next = from
+begun from s (InLength r v) next = next
+begun from s t next = from
+
+-- the search after a step from s to t
+abbrev pub searched : Search → (s t : State) → (next : ℕ) → Search
+searched q s t next = record { at = q.at; found = noted q.found s t q.at q.from next; from = begun q.from s t next }
 
 -- what was found counts only in a record that 11 and 12 let pass
-unfoldable pub settled : Scan → Found → (at : ℕ) → Found
-settled s found at = cond (eqb s.phase at_end) (cond (eqb s.sum s.picks) found (nothing_at at)) (nothing_at at)
+abbrev pub settled_by : Option Totals → Found → (at : ℕ) → Found
+settled_by None found at = nothing_at at
+settled_by (Some t) found at = cond (eqb t.sum t.picks) found (nothing_at at)
 
--- The ways of `noted`: d tells a section read whole, g the one sought
-
-module _ (found : Found) (s : Scan) (phase at from next : ℕ) {d : Bool} (e : d ≡ completes s.phase phase) where
-  pub noted_section : {g : Bool} (x : Section) → d ≡ true → g ≡ sought at from s.whole → g ≡ true → x ≡ section_after s.sum s.number
-      → found_at x next ≡ noted found s phase at from next
-  unfolding noted
-  noted_section x p f q h = simp (sym e ∙ p, sym f ∙ q, h)
-
-  pub noted_other : {g : Bool} → d ≡ true → g ≡ sought at from s.whole → g ≡ false → found ≡ noted found s phase at from next
-  unfolding noted
-  noted_other p f q = simp (sym e ∙ p, sym f ∙ q)
-
-  pub noted_within : d ≡ false → found ≡ noted found s phase at from next
-  unfolding noted
-  noted_within p = simp (sym e ∙ p)
+unfoldable pub settled : State → Found → (at : ℕ) → Found
+settled s found at = settled_by (totals s) found at

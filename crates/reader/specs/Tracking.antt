@@ -1,22 +1,23 @@
 -- The search for the section at a place finds what a reader yields there: what is known after each byte.
-use Rattle.std.specs.Prelude.{◌≡◌, refl, cond, List, [], ◌∷◌, ◌++◌, ℕ, suc, ◌+◌, ◌≤◌, ◌<◌, eqb, length, get_or}
+use Rattle.std.specs.Prelude.{◌≡◌, refl, cond, List, [], ◌∷◌, ◌++◌, ℕ, suc, ◌+◌, ◌≤◌, ◌<◌, eqb, length, get_or, Some, None}
 use Rattle.std.proofs.Common.{sym, ap, ◌∙◌, arith, length-append, eq-eqb, ne_eqb}
 use Rattle.std.proofs.Math.Option.{Option, some, none}
 use Rattle.std.proofs.Math.Decide.{ℕ_discrete}
+use Rattle.words.proofs.Cases.{clash}
 use Rattle.text.specs.Definitions.{comma, decimal}
 use Rattle.layout.specs.declared.Found.{Found}
 use Rattle.layout.specs.Record.{Folded}
 use Rattle.layout.specs.Layout.{total, opening}
 use Rattle.layout.specs.Reading.{State, in_picks, in_count, in_length, in_half, closed, start, run, reach, number_at, reading_of, reading}
 use Rattle.layout.specs.Yield.{section_after, nothing_at, found_at, bytes_in, among, behind_count, yielded, yield_at}
-use Rattle.layout.proofs.Entries.{length_snoc}
-use Rattle.layout.proofs.Steps.{picks_digit, picks_end, count_digit, count_end, length_digit, length_end, letter, another, last}
-use Rattle.layout.proofs.Back.{digits_to, digits_some, folded_bytes, bytes_to}
+use Rattle.layout.proofs.Steps.{Steps, picks_digit, picks_end, count_digit, count_end, length_digit, length_end, letter, another, last}
+use Rattle.layout.proofs.Back.{digits_to, digits_some, folded_bytes, bytes_to, Valid}
 use Rattle.layout.proofs.Places.{offset, offset_append, bytes_in_two, opening_length}
-use Rattle.reader.specs.declared.step.Scan.{Scan}
-use Rattle.reader.specs.Numbers.{numbers_of}
-use Rattle.reader.specs.ScanCode.{after, after_all, Reads, stuck, goes, reads}
-use Rattle.reader.specs.SectionCode.{sought, noted, begun, settled}
+use Rattle.reader.specs.declared.step.State.{State as Scan}
+use Rattle.reader.specs.declared.section.Search.{Search}
+use Rattle.reader.specs.Numbers.{numbers, numbers_of, stepped}
+use Rattle.reader.specs.ScanCode.{after, after_all, breaks_off, Turn, turn}
+use Rattle.reader.specs.SectionCode.{sought, noted, begun, searched, settled}
 
 -- where the section sought begins
 abbrev pub wanted_at : (at p c : ℕ) → ℕ
@@ -101,52 +102,73 @@ module _ (at i p c from : ℕ) (fs : List Folded) (f : Folded) (found : Found)
 
 -- One byte
 
-tracks_byte : (at b i : ℕ) (found : Found) (from : ℕ) {o o' : Option State} → Reads i b o o' → Tracks at o found from
-    → Tracks at o' (noted found (numbers_of o) (numbers_of o').phase at from (i + 1))
-    (begun from (numbers_of o).phase (numbers_of o').phase (i + 1))
+tracks_byte : (at b i : ℕ) (found : Found) (from : ℕ) {s t : State} → Steps s b t → Valid s → i ≡ length (bytes_to s)
+    → Tracks at (some s) found from
+    → Tracks at (some t) (noted found (numbers s) (numbers t) at from (i + 1)) (begun from (numbers s) (numbers t) (i + 1))
 unfolding noted begun bytes_to among
-tracks_byte at b i found from stuck h = tt
-tracks_byte at b i found from (goes (picks_digit d w) x n) h = h
-tracks_byte at b i found from (goes (picks_end l) x n) h = h
-tracks_byte at b i found from (goes (count_digit d w) x n) h = h
-tracks_byte at b i found from (goes (count_end {p = p} {v = v} l) x n) h = (h, count_length i p v l n)
-tracks_byte at b i found from (goes (length_digit d w) x n) h = h
-tracks_byte at b i found from (goes (length_end l) x n) h = h
-tracks_byte at b i found from (goes (letter l k) x n) h = h
-tracks_byte at b i found from (goes (another {p = p} {c = c} {len = len} {fs = fs} {half = half} l k) x n) h =
+tracks_byte at b i found from (picks_digit d w) x n h = h
+tracks_byte at b i found from (picks_end l) x n h = h
+tracks_byte at b i found from (count_digit d w) x n h = h
+tracks_byte at b i found from (count_end {p = p} {v = v} l) x n h = (h, count_length i p v l n)
+tracks_byte at b i found from (length_digit d w) x n h = h
+tracks_byte at b i found from (length_end l) x n h = h
+tracks_byte at b i found from (letter l k) x n h = h
+tracks_byte at b i found from (another {p = p} {c = c} {len = len} {fs = fs} {half = half} l k) x n h =
     let f : Folded = record { len = len; half = half } in
     (found_on at i p c from fs f found h n, from_on at i p c from fs f found h n)
-tracks_byte at b i found from (goes (last {p = p} {c = c} {len = len} {fs = fs} {half = half} l k) x n) h =
+tracks_byte at b i found from (last {p = p} {c = c} {len = len} {fs = fs} {half = half} l k) x n h =
     let f : Folded = record { len = len; half = half } in
-    let y : length (fs ++ f ∷ []) ≡ c = length_snoc fs f ∙ omega (arith, x.3) in
+    let y : length (fs ++ f ∷ []) ≡ c = length-append fs (f ∷ []) ∙ omega (arith, x.3) in
     rw y (found_on at i p c from fs f found h n)
 
 -- The loop: how it begins, a turn, and how it ends
 
-pub tracks_begins : (bytes : List ℕ) (at from : ℕ) (found : Found) → found ≡ nothing_at at → Tracks at (after bytes 0) found from
+-- of the search for the section at a place
+abbrev pub Searches : (at : ℕ) → Option State → Search → Type 0
+Searches at o q = (q.at ≡ at) × Tracks at o q.found q.from
+
+pub tracks_begins : (bytes : List ℕ) (at from : ℕ) (found : Found) → found ≡ nothing_at at
+    → Searches at (after bytes 0) (record { at = at; found = found; from = from })
 unfolding run
-tracks_begins bytes at from found e = e
+tracks_begins bytes at from found e = (refl, e)
 
-pub tracks_turn : (bytes : List ℕ) (i at from from' : ℕ) (found found' : Found) (s s' : Scan) → i < length bytes
-    → s ≡ numbers_of (after bytes i) → s' ≡ numbers_of (after bytes (i + 1)) → Tracks at (after bytes i) found from
-    → found' ≡ noted found s s'.phase at from (i + 1) → from' ≡ begun from s.phase s'.phase (i + 1)
-    → Tracks at (after bytes (i + 1)) found' from'
-tracks_turn bytes i at from from' found found' s s' l e e' h f g =
-    rw (f, g, e, e') (tracks_byte at (get_or bytes i 0) i found from (reads bytes i l) h)
+pub tracks_turn : (bytes : List ℕ) (i at : ℕ) (q r : Search) (s t : Scan) → i < length bytes
+    → Some s ≡ numbers_of (after bytes i) → Some t ≡ numbers_of (after bytes (i + 1)) → Searches at (after bytes i) q
+    → r ≡ searched q s t (i + 1) → Searches at (after bytes (i + 1)) r
+tracks_turn bytes i at q r s t l e e' h f = go (turn bytes i s t l e e')
+  where
+    go : Turn bytes i s t → Searches at (after bytes (i + 1)) r
+    go u =
+        let b = get_or bytes i 0 in
+        rw (f, u.reads, u.from, u.to) (
+          h.0,
+          rw h.0 (tracks_byte at b i q.found q.from u.steps u.valid u.place (rw u.read at h.1)),
+        )
 
-tracks_settled : (at place from : ℕ) (found : Found) (o : Option State) → Tracks at o found from
-    → settled (numbers_of o) found at ≡ yielded (reading_of place o) at
+tracks_settled : (at place from : ℕ) (found : Found) (s : State) → Tracks at (some s) found from
+    → settled (numbers s) found at ≡ yielded (reading_of place (some s)) at
 unfolding settled yielded reading_of
-tracks_settled at place from found none h = refl
-tracks_settled at place from found (some (in_picks v)) h = refl
-tracks_settled at place from found (some (in_count p v)) h = refl
-tracks_settled at place from found (some (in_length p c fs v)) h = refl
-tracks_settled at place from found (some (in_half p c fs len half)) h = refl
-tracks_settled at place from found (some (closed p fs)) h = ap (λ r. cond (eqb (total fs) p) r (nothing_at at)) h
+tracks_settled at place from found (in_picks v) h = refl
+tracks_settled at place from found (in_count p v) h = refl
+tracks_settled at place from found (in_length p c fs v) h = refl
+tracks_settled at place from found (in_half p c fs len half) h = refl
+tracks_settled at place from found (closed p fs) h = ap (λ r. cond (eqb (total fs) p) r (nothing_at at)) h
 
-pub tracks_ends : (bytes : List ℕ) (i at from : ℕ) (found r : Found) (s : Scan) → length bytes ≤ i → s ≡ numbers_of (after bytes i)
-    → Tracks at (after bytes i) found from → r ≡ settled s found at → r ≡ yield_at bytes at
+-- where the bytes break off nothing is found
+pub tracks_broken : (bytes : List ℕ) (i at : ℕ) (s : Scan) → i < length bytes → Some s ≡ numbers_of (after bytes i)
+    → None ≡ stepped s (get_or bytes i 0) → nothing_at at ≡ yield_at bytes at
+unfolding yield_at reading yielded reading_of
+tracks_broken bytes i at s l e f = rw (breaks_off bytes i s l e f).0
+
+pub tracks_ends : (bytes : List ℕ) (i at : ℕ) (q : Search) (s : Scan) → length bytes ≤ i → Some s ≡ numbers_of (after bytes i)
+    → Searches at (after bytes i) q → settled s q.found q.at ≡ yield_at bytes at
 unfolding yield_at reading
-tracks_ends bytes i at from found r s l e h f =
-    let z = after_all bytes i l in
-    f ∙ rw (e, z) (tracks_settled at (number_at bytes (reach start bytes)) from found (run start bytes) (rw z at h))
+tracks_ends bytes i at q s l e h =
+    let z = after_all bytes i l in rw h.0 (go (run start bytes) (rw z at e) (rw z at h.1))
+  where
+    place : ℕ
+    place = number_at bytes (reach start bytes)
+
+    go : (o : Option State) → Some s ≡ numbers_of o → Tracks at o q.found q.from → settled s q.found at ≡ yielded (reading_of place o) at
+    go none f k = clash cc
+    go (some t) f k = let x : s ≡ numbers t = cc in rw x (tracks_settled at place q.from q.found t k)

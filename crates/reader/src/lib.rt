@@ -1,12 +1,12 @@
 // A folded record read back: the picks that it unfolds to, and its sections one by one.
 #![tactic(auto)]
 
-ghost use Rattle.reader.specs.Reader.{NextPromise};
+ghost use Rattle.reader.specs.Reader.{NextPromise, bytes_left};
 
 use crate::section::section_at;
-use layout::Yielded;
+use layout::Section;
 
-mod byte;
+mod number;
 mod scan;
 pub mod section;
 mod step;
@@ -20,11 +20,16 @@ pub struct Reader<'a> {
 }
 
 // The next section, or none; and the reader moves on.
-pub fn next<'s, 'a>(r: &'s mut Reader<'a>) -> Yielded
-    ensures { NextPromise r.old result r.new }
-{
-    let at = r.at;
-    let f = section_at(r.bytes, at);
-    r.at = f.next;
-    f.yielded
+impl Iterator for Reader<'_> {
+    type Item = Section;
+
+    ghost next_gives = { NextPromise };
+
+    ghost remaining = { bytes_left };
+
+    fn next(&mut self) -> Option<Section> {
+        let found = section_at(self.bytes, self.at);
+        self.at = found.next;
+        found.yielded
+    }
 }

@@ -1,115 +1,57 @@
-// A whole record read: the numbers at its end, how far the reading came, and the number under which the record is refused.
-ghost use Rattle.std.specs.Prelude.{◌≡◌, cond, ◌<◌, eqb};
-ghost use Rattle.std.proofs.Math.Option.{some};
+// A whole record read: its totals or how far the reading came, and its picks or its refusal.
+ghost use Rattle.std.specs.Prelude.{◌≡◌, ◌<◌, ◌≤◌, ◌-◌, ℕ, true, false, length, slice_index};
+ghost use Rattle.std.specs.Char.{is_ascii_digit};
 ghost use Rattle.layout.specs.Reading.{start, run, reach, number_at, reading};
-ghost use Rattle.reader.specs.Numbers.{at_break, numbers_of};
-ghost use Rattle.reader.specs.CheckCode.{follows, checked_of};
+ghost use Rattle.reader.specs.ScanCode.{scanned};
+ghost use Rattle.reader.specs.CheckCode.{checked_of};
 
-use crate::byte::is_digit;
-use crate::step::{BROKEN, CLOSED, IN_PICKS, Scan, step};
-use cells::byte_at;
-use promises::{NO_RECORD, UNEQUAL};
+use crate::step::{State, Totals, step};
+use cells::at;
+use promises::Refusal;
 
-// Before the first byte.
-pub fn begin() -> Scan
-    ensures { result ≡ numbers_of (some start) }
+// How the reading of all the bytes ends: with a whole record, or after how many of them it breaks off.
+#[tactic(auto, using(crate::specs::ScanCode::scan_small))]
+fn scan(bytes: &[u8]) -> Result<Totals, usize>
+    ensures { result ≡ scanned (run start bytes.now) (reach start bytes.now) }
 {
-    Scan {
-        phase: IN_PICKS,
-        picks: 0,
-        count: 0,
-        whole: 0,
-        sum: 0,
-        number: 0,
-        letters: 0,
+    let mut s = State::START;
+    for (i, &b) in bytes.iter().enumerate() {
+        s = step(s, b).ok_or(i)?;
     }
+    s.totals().ok_or(bytes.len())
 }
 
-// How far the reading has come after i bytes: no further where it has broken off.
-fn reached(phase: u8, stop: usize, i: usize) -> usize
-    ensures { result ≡ cond (eqb phase at_break) stop i }
+// The first of the digits at the end of these bytes.
+fn digits_at(bytes: &[u8]) -> usize
+    ensures within { result ≤ length bytes.now }
+    ensures digits { (k : ℕ) → result ≤ k → k < length bytes.now → is_ascii_digit (slice_index bytes.now k) ≡ true }
+    ensures before { 0 < result → is_ascii_digit (slice_index bytes.now (result - 1)) ≡ false }
 {
-    if phase == BROKEN { stop } else { i }
-}
-
-#[derive(Clone, Copy)]
-pub struct Scanned {
-    pub scan: Scan,
-    pub stop: usize,
-}
-
-fn scan(bytes: &[u8]) -> Scanned
-    ensures { (result.scan ≡ numbers_of (run start bytes.now)) × (result.stop ≡ reach start bytes.now) }
-{
-    let mut s = begin();
-    let mut stop = 0usize;
-    let mut i = 0usize;
-    while i < bytes.len() {
-        s = step(s, byte_at(bytes, i));
-        i = i + 1;
-        stop = reached(s.phase, stop, i);
-    }
-    Scanned { scan: s, stop }
-}
-
-// Whether a digit stands at a place behind a digit.
-#[tactic(auto, unfolding(crate::specs::CheckCode::follows))]
-fn follows(bytes: &[u8], i: usize) -> bool
-    requires { 0 < i }
-    ensures { result ≡ follows bytes.now i }
-{
-    if is_digit(byte_at(bytes, i - 1)) {
-        return is_digit(byte_at(bytes, i));
-    }
-    false
+    bytes
+        .iter()
+        .rposition(|b| !b.is_ascii_digit())
+        .map_or(0, |i| i + 1)
 }
 
 // A number's first digit, for a digit of it; for any other byte its own place.
 fn number_at(bytes: &[u8], place: usize) -> usize
     ensures { result ≡ number_at bytes.now place }
 {
-    let mut i = place;
-    while 0 < i {
-        if follows(bytes, i) {
-            i = i - 1;
-        } else {
-            return i;
-        }
+    if at(bytes, place, 0).is_ascii_digit() {
+        digits_at(&bytes[..place])
+    } else {
+        place
     }
-    i
 }
 
-// A record's number, 0 where 11 and 12 let it pass; with 11 its place, with 0 the count of its picks.
-#[derive(Clone, Copy)]
-pub struct Checked {
-    pub number: u8,
-    pub place: usize,
-    pub picks: usize,
-}
-
-pub fn check(bytes: &[u8]) -> Checked
+// How many picks a record has; refused are bytes that are none, and lengths that do not add up to the picks.
+#[tactic(auto, using(crate::specs::CheckCode::passes_as, crate::specs::CheckCode::unequal_as, crate::specs::CheckCode::broken_as))]
+pub fn check(bytes: &[u8]) -> Result<usize, Refusal>
     ensures { result ≡ checked_of (reading bytes.now) }
 {
-    let r = scan(bytes);
-    let s = r.scan;
-    if s.phase == CLOSED {
-        if s.sum == s.picks {
-            return Checked {
-                number: 0,
-                place: 0,
-                picks: s.picks,
-            };
-        }
-        return Checked {
-            number: UNEQUAL,
-            place: 0,
-            picks: 0,
-        };
-    }
-    let place = number_at(bytes, r.stop);
-    Checked {
-        number: NO_RECORD,
-        place,
-        picks: 0,
+    match scan(bytes) {
+        Ok(t) if t.sum == t.picks => Ok(t.picks),
+        Ok(_) => Err(Refusal::Unequal),
+        Err(stop) => Err(Refusal::NoRecord(number_at(bytes, stop))),
     }
 }

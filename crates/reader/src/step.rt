@@ -1,193 +1,163 @@
 // One byte of a record read.
 ghost use Rattle.std.specs.Prelude.{◌≡◌, ◌≤◌};
 ghost use Rattle.words.specs.Definitions.{most_picks};
-ghost use Rattle.reader.specs.Numbers.{broken, most_of, next_field, step_number, next_section, step_letter, stepped, Small};
+ghost use Rattle.reader.specs.Numbers.{totals, in_picks, in_count, in_length, next_section, in_half, stepped, Bounded, Small};
 
-use crate::byte::{ends_number, in_range, is_digit, is_letter, onward};
+use crate::number::{Number, read_number};
 use cells::{PICKS, SECTIONS};
 use text::{COMMA, LINE_END};
 
-// Where the reading is: in the picks, in the count of sections, in a section's length, in its half, behind the line, or broken off.
-pub const IN_PICKS: u8 = 0;
-
-pub const IN_COUNT: u8 = 1;
-
-pub const IN_LENGTH: u8 = 2;
-
-pub const IN_HALF: u8 = 3;
-
-pub const CLOSED: u8 = 4;
-
-pub const BROKEN: u8 = 5;
-
+// What is known behind the count: the picks and the sections that the record says, the sections read whole, the sum of their lengths.
 #[derive(Clone, Copy)]
-pub struct Scan {
-    pub phase: u8,
-    // The picks and the sections that the record says.
+pub struct Sections {
     pub picks: usize,
     pub count: usize,
-    // The sections read whole, and the sum of their lengths.
     pub whole: usize,
     pub sum: usize,
-    // The number so far, or the length of the section whose half is read; the letters of that half so far.
-    pub number: usize,
-    pub letters: usize,
 }
 
-fn broken() -> Scan
-    ensures { result ≡ broken }
-{
-    Scan {
-        phase: BROKEN,
-        picks: 0,
-        count: 0,
-        whole: 0,
-        sum: 0,
-        number: 0,
-        letters: 0,
-    }
+// Of a record read whole: the picks that it says, and the sum of its sections' lengths.
+#[derive(Clone, Copy)]
+pub struct Totals {
+    pub picks: usize,
+    pub sum: usize,
 }
 
-// The largest number that the field may hold.
-#[tactic(auto, unfolding(crate::specs::Numbers::most_of))]
-fn most_of(phase: u8) -> usize
-    ensures { result ≡ most_of phase }
-{
-    if phase == IN_COUNT { SECTIONS } else { PICKS }
+// Where the reading is: in the picks, in the count of sections, in a section's length, in its half of letters, or behind the line.
+// A number is the one that the digits so far say.
+#[derive(Clone, Copy)]
+pub enum State {
+    InPicks {
+        number: usize,
+    },
+    InCount {
+        picks: usize,
+        number: usize,
+    },
+    InLength {
+        read: Sections,
+        number: usize,
+    },
+    InHalf {
+        read: Sections,
+        length: usize,
+        letters: usize,
+    },
+    Closed(Totals),
 }
 
-// A number ended: the picks, the count of sections, or a section's length.
-#[tactic(auto, unfolding(crate::specs::Numbers::next_field))]
-fn next_field(s: Scan) -> Scan
-    ensures { result ≡ next_field s }
-{
-    if s.phase == IN_PICKS {
-        return Scan {
-            phase: IN_COUNT,
-            picks: s.number,
-            count: 0,
-            whole: 0,
-            sum: 0,
-            number: 0,
-            letters: 0,
-        };
-    }
-    if s.phase == IN_COUNT {
-        return Scan {
-            phase: IN_LENGTH,
-            picks: s.picks,
-            count: s.number,
-            whole: 0,
-            sum: 0,
-            number: 0,
-            letters: 0,
-        };
-    }
-    Scan {
-        phase: IN_HALF,
-        picks: s.picks,
-        count: s.count,
-        whole: s.whole,
-        sum: s.sum,
-        number: s.number,
-        letters: 0,
-    }
-}
+impl State {
+    // Before the first byte.
+    pub const START: Self = State::InPicks { number: 0 };
 
-#[tactic(auto, unfolding(crate::specs::Numbers::step_number))]
-fn step_number(s: Scan, b: u8) -> Scan
-    requires { s.number ≤ most_picks }
-    ensures { result ≡ step_number s b }
-{
-    if is_digit(b) {
-        let n = onward(s.number, b);
-        if in_range(n, most_of(s.phase)) {
-            return Scan {
-                phase: s.phase,
-                picks: s.picks,
-                count: s.count,
-                whole: s.whole,
-                sum: s.sum,
-                number: n,
-                letters: s.letters,
-            };
+    // Of a record read whole.
+    pub fn totals(self) -> Option<Totals>
+        ensures { result ≡ totals self }
+    {
+        match self {
+            State::Closed(totals) => Some(totals),
+            _ => None,
         }
-        return broken();
     }
-    if ends_number(b, s.number) {
-        return next_field(s);
-    }
-    broken()
+}
+
+fn in_picks(number: usize, b: u8) -> Option<State>
+    requires { number ≤ most_picks }
+    ensures { result ≡ in_picks number b }
+{
+    Some(match read_number(PICKS, number, b)? {
+        Number::More(number) => State::InPicks { number },
+        Number::Ended => State::InCount {
+            picks: number,
+            number: 0,
+        },
+    })
+}
+
+fn in_count(picks: usize, number: usize, b: u8) -> Option<State>
+    requires { number ≤ most_picks }
+    ensures { result ≡ in_count picks number b }
+{
+    Some(match read_number(SECTIONS, number, b)? {
+        Number::More(number) => State::InCount { picks, number },
+        Number::Ended => State::InLength {
+            read: Sections {
+                picks,
+                count: number,
+                whole: 0,
+                sum: 0,
+            },
+            number: 0,
+        },
+    })
+}
+
+fn in_length(read: Sections, number: usize, b: u8) -> Option<State>
+    requires { number ≤ most_picks }
+    ensures { result ≡ in_length read number b }
+{
+    Some(match read_number(PICKS, number, b)? {
+        Number::More(number) => State::InLength { read, number },
+        Number::Ended => State::InHalf {
+            read,
+            length: number,
+            letters: 0,
+        },
+    })
 }
 
 // A half ended: a comma where a section is to come, the end of the line where none is.
 #[tactic(auto, unfolding(crate::specs::Numbers::next_section))]
-fn next_section(s: Scan, b: u8) -> Scan
-    requires { Small s }
-    ensures { result ≡ next_section s b }
+fn next_section(read: Sections, length: usize, b: u8) -> Option<State>
+    requires { Bounded read × (length ≤ most_picks) }
+    ensures { result ≡ next_section read length b }
 {
-    let whole = s.whole + 1;
-    let sum = s.sum + s.number;
-    if whole < s.count {
-        if b == COMMA {
-            return Scan {
-                phase: IN_LENGTH,
-                picks: s.picks,
-                count: s.count,
-                whole,
-                sum,
-                number: 0,
-                letters: 0,
-            };
-        }
-        return broken();
+    let read = Sections {
+        whole: read.whole + 1,
+        sum: read.sum + length,
+        ..read
+    };
+    if read.whole < read.count {
+        return (b == COMMA).then_some(State::InLength { read, number: 0 });
     }
-    if b == LINE_END {
-        return Scan {
-            phase: CLOSED,
-            picks: s.picks,
-            count: 0,
-            whole,
-            sum,
-            number: 0,
-            letters: 0,
-        };
-    }
-    broken()
+    (b == LINE_END).then_some(State::Closed(Totals {
+        picks: read.picks,
+        sum: read.sum,
+    }))
 }
 
-#[tactic(auto, unfolding(crate::specs::Numbers::step_letter))]
-fn step_letter(s: Scan, b: u8) -> Scan
-    requires { Small s }
-    ensures { result ≡ step_letter s b }
+// A letter where the half lacks one.
+#[tactic(auto, unfolding(layout::specs::Reading::is_letter, crate::specs::Numbers::in_half))]
+fn in_half(read: Sections, length: usize, letters: usize, b: u8) -> Option<State>
+    requires { Bounded read × (length ≤ most_picks) × (letters ≤ most_picks) }
+    ensures { result ≡ in_half read length letters b }
 {
-    if s.letters < (s.number + 1) / 2 {
-        if is_letter(b) {
-            return Scan {
-                phase: s.phase,
-                picks: s.picks,
-                count: s.count,
-                whole: s.whole,
-                sum: s.sum,
-                number: s.number,
-                letters: s.letters + 1,
-            };
-        }
-        return broken();
+    if letters < (length + 1) / 2 {
+        return b.is_ascii_uppercase().then_some(State::InHalf {
+            read,
+            length,
+            letters: letters + 1,
+        });
     }
-    next_section(s, b)
+    next_section(read, length, b)
 }
 
+// The state after the byte; none where it breaks the reading off. That the numbers are small is required, since the specs have a state for
+// any numbers. Who walks the bytes has a loop of its own, since each has another invariant.
 #[tactic(auto, unfolding(crate::specs::Numbers::stepped))]
-pub fn step(s: Scan, b: u8) -> Scan
+pub fn step(s: State, b: u8) -> Option<State>
     requires { Small s }
     ensures { result ≡ stepped s b }
 {
-    if s.phase < IN_HALF {
-        return step_number(s, b);
+    match s {
+        State::InPicks { number } => in_picks(number, b),
+        State::InCount { picks, number } => in_count(picks, number, b),
+        State::InLength { read, number } => in_length(read, number, b),
+        State::InHalf {
+            read,
+            length,
+            letters,
+        } => in_half(read, length, letters, b),
+        State::Closed(_) => None,
     }
-    if s.phase == IN_HALF {
-        return step_letter(s, b);
-    }
-    broken()
 }

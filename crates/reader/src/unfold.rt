@@ -5,54 +5,53 @@ ghost use Rattle.promises.specs.Promises.{UnfoldPromise};
 ghost use Rattle.reader.specs.Numbers.{Small};
 ghost use Rattle.reader.specs.Filling.{put, Fills};
 
-use crate::scan::{begin, check};
-use crate::step::{IN_HALF, Scan, step};
-use cells::{byte_at, minus, store_byte};
-use promises::{NO_RECORD, TOO_LONG, UnfoldAnswer};
+use crate::scan::check;
+use crate::step::{State, step};
+use cells::store;
+use promises::Refusal;
 
-// The stores of a step from s to a phase by the byte b.
+// The stores of a step from s to t by the byte b.
 #[tactic(auto, unfolding(crate::specs::Filling::put))]
-fn put(picks: &mut [u8], s: Scan, phase: u8, b: u8)
+fn put(picks: &mut [u8], s: State, t: State, b: u8)
     requires { Small s }
-    ensures { picks.new ≡ put picks.old s phase b }
+    ensures { picks.new ≡ put picks.old s t b }
 {
-    if s.phase == IN_HALF {
-        if phase == IN_HALF {
-            store_byte(picks, s.sum + s.letters, b);
-            let last = minus(s.sum + s.number, 1);
-            store_byte(picks, minus(last, s.letters), b);
-        }
+    if let (
+        State::InHalf {
+            read,
+            length,
+            letters,
+        },
+        State::InHalf { .. },
+    ) = (s, t)
+    {
+        store(picks, read.sum + letters, b);
+        let last = (read.sum + length).saturating_sub(1);
+        store(picks, last.saturating_sub(letters), b);
     }
 }
 
+#[tactic(auto, using(crate::specs::ScanCode::scan_small))]
 fn write_picks(bytes: &[u8], picks: &mut [u8])
     ensures { Fills picks.old (run start bytes.now) picks.new }
 {
-    let mut s = begin();
-    let mut i = 0usize;
-    while i < bytes.len() {
-        let b = byte_at(bytes, i);
-        let t = step(s, b);
-        put(picks, s, t.phase, b);
+    let mut s = State::START;
+    for &b in bytes {
+        let Some(t) = step(s, b) else { return };
+        put(picks, s, t, b);
         s = t;
-        i = i + 1;
     }
 }
 
 // The record's picks at the front of the list, and how many.
-pub fn unfold(bytes: &[u8], picks: &mut [u8]) -> UnfoldAnswer
+#[tactic(auto, using(crate::specs::UnfoldCode::unfold_refused))]
+pub fn unfold(bytes: &[u8], picks: &mut [u8]) -> Result<usize, Refusal>
     ensures { UnfoldPromise bytes.now picks.old result picks.new }
 {
-    let c = check(bytes);
-    if c.number == NO_RECORD {
-        return UnfoldAnswer::RefusedAt(c.number, c.place);
-    }
-    if c.number != 0 {
-        return UnfoldAnswer::Refused(c.number);
-    }
-    if picks.len() < c.picks {
-        return UnfoldAnswer::Refused(TOO_LONG);
+    let count = check(bytes)?;
+    if picks.len() < count {
+        return Err(Refusal::TooLong);
     }
     write_picks(bytes, picks);
-    UnfoldAnswer::Unfolded(c.picks)
+    Ok(count)
 }

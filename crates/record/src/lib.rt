@@ -6,7 +6,7 @@ ghost use Rattle.std.proofs.lemmas.List.Edits.{sets};
 ghost use Rattle.words.specs.Definitions.{most_picks, most_sections, word};
 ghost use Rattle.text.specs.Writes.{Writes};
 ghost use Rattle.text.specs.Decimal.{most_digits};
-ghost use Rattle.promises.specs.Answers.{record_says, reply};
+ghost use Rattle.promises.specs.Answers.{number_says, reply};
 ghost use Rattle.layout.specs.Record.{record_of};
 ghost use Rattle.promises.specs.Replies.{or_too_long};
 ghost use Rattle.record.specs.Fields.{head_bytes};
@@ -16,12 +16,13 @@ mod sections;
 
 use crate::sections::{sections_size, write_sections};
 use cells::{Letters, Place};
-use promises::{RecordAnswer, TOO_LONG};
+use promises::Refusal;
 use text::bytes::write_byte;
 use text::decimal::{digit_count, write_decimal};
 use text::{COMMA, LINE_END};
 
-// The count of bytes of the record of prefix i in the sections with these ends; whatever the letters are.
+// The count of bytes of the record of prefix i in the sections with these ends; whatever the letters are, so they are no part of a struct
+// with i and ends. Any ends may be given: that they are at most 8 is required.
 #[tactic(auto, using(crate::specs::RecordCode::size_as))]
 pub fn record_size(i: Place, ends: &[u16]) -> usize
     requires { (i.0 ≤ most_picks) × (length ends.now ≤ most_sections) }
@@ -55,15 +56,20 @@ fn write_fields(letters: &Letters, i: Place, ends: &[u16], output: &mut [u8])
 
 // The record of prefix i in the sections with these ends, or the refusal that it is longer than the output.
 #[tactic(auto, using(crate::specs::RecordCode::refused_as, crate::specs::RecordCode::written_as))]
-pub fn write_record(letters: &Letters, i: Place, ends: &[u16], output: &mut [u8]) -> RecordAnswer
+pub fn write_record(
+    letters: &Letters,
+    i: Place,
+    ends: &[u16],
+    output: &mut [u8],
+) -> Result<usize, Refusal>
     requires { (i.0 ≤ most_picks) × (length ends.now ≤ most_sections) }
-    ensures { reply (record_says result) output.new
+    ensures { reply (number_says result) output.new
         ≡ or_too_long (record_of (word letters.now) i.0 ends.now) output.old }
 {
     let size = record_size(i, ends);
     if output.len() < size {
-        return RecordAnswer::Refused(TOO_LONG);
+        return Err(Refusal::TooLong);
     }
     write_fields(letters, i, ends, output);
-    RecordAnswer::Written(size)
+    Ok(size)
 }

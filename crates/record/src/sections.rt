@@ -1,5 +1,5 @@
 // The sections of the record, one after another; each begins where the one before it ends.
-ghost use Rattle.std.specs.Prelude.{◌≡◌, ◌+◌, ◌*◌, ◌≤◌, ◌<◌, length, get_or};
+ghost use Rattle.std.specs.Prelude.{◌≡◌, ◌+◌, ◌*◌, ◌≤◌, ◌<◌, length};
 ghost use Rattle.words.specs.Definitions.{most_sections, word};
 ghost use Rattle.text.specs.Writes.{Writes, far};
 ghost use Rattle.record.specs.Fields.{most_section_size, sections_size, sections_bytes};
@@ -7,26 +7,17 @@ ghost use Rattle.record.specs.Fields.{most_section_size, sections_size, sections
 use crate::section::{section_size, write_section};
 use cells::Letters;
 
-// The end of section j; 0 where there is none.
-fn end_of(ends: &[u16], j: usize) -> usize
-    ensures { (result ≡ get_or ends.now j 0) × (result < 65536) }
-{
-    if j < ends.len() { ends[j] as usize } else { 0 }
-}
-
 // The count of bytes of the sections with these ends.
 pub fn sections_size(ends: &[u16]) -> usize
     requires { length ends.now ≤ most_sections }
     ensures { (result ≡ sections_size 0 ends.now) × (result ≤ most_sections * most_section_size) }
 {
-    let mut size = 0usize;
-    let mut a = 0usize;
-    let mut j = 0usize;
-    while j < ends.len() {
-        let e = end_of(ends, j);
-        size = size + section_size(a, e);
+    let mut size = 0;
+    let mut a = 0;
+    for &end in ends {
+        let e = usize::from(end);
+        size += section_size(a, e);
         a = e;
-        j = j + 1;
     }
     size
 }
@@ -38,13 +29,11 @@ pub fn write_sections(letters: &Letters, ends: &[u16], output: &mut [u8], at: us
     ensures small { result ≤ at + most_sections * most_section_size }
 {
     let mut next = at;
-    let mut a = 0usize;
-    let mut j = 0usize;
-    while j < ends.len() {
-        let e = end_of(ends, j);
+    let mut a = 0;
+    for &end in ends {
+        let e = usize::from(end);
         next = write_section(letters, a, e, output, next);
         a = e;
-        j = j + 1;
     }
     next
 }

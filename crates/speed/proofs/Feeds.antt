@@ -6,12 +6,12 @@ use Rattle.models.proofs.Stores.{sets_append}
 use Rattle.promises.specs.declared.Draft.{Draft}
 use Rattle.promises.specs.declared.FeedAnswer.{FeedAnswer}
 use Rattle.promises.specs.Promises.{FeedPromise}
-use Rattle.promises.specs.Lent.{fed_as}
+use Rattle.promises.specs.Lent.{answered_as}
 use Rattle.speed.specs.Feeds.{mask_of, more, Reaches}
 
 -- one more
 pub reaches_more : {d e f : Draft} {list : List ℕ} (picks masks : List ℕ) (i : ℕ) {masks' masks'' before after : List ℕ} {answer : FeedAnswer} (mask : ℕ)
-    → i < length picks → Reaches d picks list masks i e before masks' → FeedPromise e (get_or picks i 0) before (fed_as answer f) after
+    → i < length picks → Reaches d picks list masks i e before masks' → FeedPromise e (get_or picks i 0) before (answered_as answer f) after
     → mask ≡ mask_of answer → masks'' ≡ set masks' i mask → Reaches d picks list masks (i + 1) f after masks''
 reaches_more picks masks i {answer = answer} mask l h p m s =
     let z : i + 1 ≡ suc i = omega arith in

@@ -6,7 +6,7 @@ use Rattle.promises.specs.declared.Draft.{Draft}
 use Rattle.promises.specs.declared.FeedAnswer.{FeedAnswer}
 use Rattle.promises.specs.declared.FeedAnswer.TheVariants.{Taken, Refused}
 use Rattle.promises.specs.Promises.{FeedPromise}
-use Rattle.promises.specs.Lent.{fed_as}
+use Rattle.promises.specs.Lent.{answered_as}
 
 -- the mask of an answer; 0 of a refusal
 abbrev pub mask_of : FeedAnswer → ℕ
@@ -18,7 +18,7 @@ mask_of (Refused number) = 0
 pub data Feeds (d : Draft) (list : List ℕ) : (picks : List ℕ) → Draft → (masks list' : List ℕ) → Type 0 where
   none : Feeds d list [] d [] list
   more : {picks masks before after : List ℕ} {e f : Draft} {pick : ℕ} {answer : FeedAnswer} → Feeds d list picks e masks before
-      → FeedPromise e pick before (fed_as answer f) after → Feeds d list (picks ++ pick ∷ []) f (masks ++ mask_of answer ∷ []) after
+      → FeedPromise e pick before (answered_as answer f) after → Feeds d list (picks ++ pick ∷ []) f (masks ++ mask_of answer ∷ []) after
 
 -- all picks were fed; state is what the arrays are afterwards, by its numbers, list' the visit list. The masks stand at the front of theirs
 pub record FeedsAll (d : Draft) (picks list masks : List ℕ) (longest : ℕ) (state : Numbers → Draft) (list' masks' : List ℕ) : Type 0 where

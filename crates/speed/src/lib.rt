@@ -2,20 +2,20 @@
 #![tactic(auto)]
 
 ghost use Rattle.std.specs.Prelude.{◌≡◌, List, ℕ};
-ghost use Rattle.cells.specs.Lanes.{by_centre, by_place};
 ghost use Rattle.promises.specs.State.{draft_in};
 ghost use Rattle.speed.specs.Feeds.{mask_of, FeedsAll};
 
 use calls::feed::feed;
-use cells::{Centre, Centres, Letters, Lifts, Numbers, Places, SECTIONS, store_byte};
+use cells::{Centre, Centres, Letters, Lifts, Numbers, Places, SECTIONS, store};
 use promises::FeedAnswer;
 
+// A byte for each pick, which is what C is given: 0 where it is refused.
 fn mask_of(a: FeedAnswer) -> u8
     ensures { result ≡ mask_of a }
 {
     match a {
-        FeedAnswer::Taken(mask, count) => mask,
-        FeedAnswer::Refused(number) => 0,
+        FeedAnswer::Taken(mask, _) => mask,
+        FeedAnswer::Refused(_) => 0,
     }
 }
 
@@ -34,9 +34,9 @@ pub extern "C" fn feed_all(
 ) -> usize
     ensures { (marks : List ℕ) → FeedsAll
         (draft_in (record { n = 0; k = 8; longest = record { 0 = 1 } })
-        letters.old codes.old lifts.now marks (by_centre centres.old) (by_place places.old))
+        letters.old codes.old lifts.now marks centres.old places.old)
         picks.now visits.old masks.old result
-        (λ held. draft_in held letters.new codes.new lifts.now marks (by_centre centres.new) (by_place places.new))
+        (λ held. draft_in held letters.new codes.new lifts.now marks centres.new places.new)
         visits.new masks.new }
 {
     let mut held = Numbers {
@@ -44,14 +44,10 @@ pub extern "C" fn feed_all(
         k: SECTIONS,
         longest: Centre(1),
     };
-    let mut i = 0usize;
-    while i < picks.len() {
-        let pick = picks[i];
+    for (i, &pick) in picks.iter().enumerate() {
         let step = feed(letters, codes, lifts, centres, places, visits, held, pick);
-        let answer = step.answer;
-        store_byte(masks, i, mask_of(answer));
+        store(masks, i, mask_of(step.answer));
         held = step.numbers;
-        i = i + 1;
     }
     held.longest.0
 }

@@ -9,8 +9,8 @@ ghost use Rattle.models.specs.Splitting.{starts_at, first_start, split_by};
 ghost use Rattle.models.specs.SplitCode.{Stores};
 ghost use Rattle.splitting.specs.Says.{first_says};
 
-use cells::{ByCentre, ByPlace, Centre, Numbers, Place, at, at_place, minus, narrow, store, wide};
-use iterator::reading::radius_at;
+use cells::{ByPlace, Centre, Place, entry, store};
+use iterator::reading::Radii;
 
 // Whether the row word has bit k.
 fn has_bit(row: u16, k: u8) -> bool
@@ -28,66 +28,58 @@ fn centre_between(j: Place, i: Place) -> Centre
     Centre(i.0 + j.0 + 1)
 }
 
-// Whether prefix j splits into k sections and picks j + 1 to i are one more. Constant work: a bit and a radius.
-fn starts_at(rows: &ByPlace, radius: &ByCentre, held: Numbers, k: u8, i: Place, j: Place) -> bool
-    requires { (held.n ≤ most_picks) × (k ≤ most_sections) × (i.0 ≤ most_picks) × (j.0 < i.0) }
-    ensures { result ≡ starts_at rows.now radius.now held.n (longest_of held.n held.longest.0) k i.0 j.0 }
-{
-    if has_bit(at_place(rows, j), k) {
-        let r = radius_at(radius, held.n, held.longest, centre_between(j, i));
-        return (i.0 - j.0) / 2 <= r;
-    }
-    false
-}
-
-// Where a last section starts, or that none does.
+// What a split is sought by: the row words and the radii. The prefix and the number of sections are what is asked, so they are parameters.
 #[derive(Clone, Copy)]
-pub enum First {
-    At(Place),
-    Missing,
+pub struct Search<'a, 'b> {
+    pub rows: &'a ByPlace,
+    pub radii: Radii<'b>,
 }
 
-// The first start of a last section of prefix i whose rest splits into k: tried from place 0 upward.
-fn first_start(rows: &ByPlace, radius: &ByCentre, held: Numbers, k: u8, i: Place) -> First
-    requires { (held.n ≤ most_picks) × (k ≤ most_sections) × (i.0 ≤ most_picks) }
-    ensures { first_says result ≡ first_start rows.now radius.now held.n (longest_of held.n held.longest.0) k i.0 i.0 0 }
-{
-    let mut j = 0usize;
-    let end = i.0;
-    while j < end {
-        if starts_at(rows, radius, held, k, i, Place(j)) {
-            return First::At(Place(j));
+impl Search<'_, '_> {
+    // Whether prefix j splits into k sections and picks j + 1 to i are one more. Constant work: a bit and a radius.
+    fn starts_at(&self, k: u8, i: Place, j: Place) -> bool
+        requires { (k ≤ most_sections) × (i.0 ≤ most_picks) × (j.0 < i.0) }
+        ensures { result ≡ starts_at self.now.rows.now self.now.radii.radius.now self.now.radii.held.n
+            (longest_of self.now.radii.held.n self.now.radii.held.longest.0) k i.0 j.0 }
+    {
+        if has_bit(entry(self.rows, j, 0), k) {
+            let r = self.radii.radius_at(centre_between(j, i));
+            return (i.0 - j.0) / 2 <= r;
         }
-        j = j + 1;
+        false
     }
-    First::Missing
-}
 
-// The ends of the split named of prefix i into k go to the front of the list; where there is none, nothing is stored.
-pub fn split_from(
-    rows: &ByPlace,
-    radius: &ByCentre,
-    held: Numbers,
-    i: Place,
-    k: u8,
-    ends: &mut [u16],
-) -> bool
-    requires { (held.n ≤ most_picks) × (k ≤ most_sections) × (i.0 ≤ most_picks) }
-    ensures { Stores (split_by rows.now radius.now held.n (longest_of held.n held.longest.0) k i.0) ends.old result ends.new }
-{
-    if k == 0 {
-        return i.0 == 0;
-    }
-    let found = first_start(rows, radius, held, k - 1, i);
-    match found {
-        First::Missing => false,
-        First::At(j) => {
-            if split_from(rows, radius, held, j, k - 1, ends) {
-                store(ends, (k - 1) as usize, narrow(i.0));
-                return true;
+    // The first start of a last section of prefix i whose rest splits into k: tried from place 0 upward.
+    fn first_start(&self, k: u8, i: Place) -> Option<Place>
+        requires { (k ≤ most_sections) × (i.0 ≤ most_picks) }
+        ensures { first_says result ≡ first_start self.now.rows.now self.now.radii.radius.now self.now.radii.held.n
+            (longest_of self.now.radii.held.n self.now.radii.held.longest.0) k i.0 i.0 0 }
+    {
+        for j in 0..i.0 {
+            if self.starts_at(k, i, Place(j)) {
+                return Some(Place(j));
             }
-            false
         }
+        None
+    }
+
+    // The ends of the split named of prefix i into k go to the front of the list; where there is none, nothing is stored.
+    pub fn split_into(&self, k: u8, i: Place, ends: &mut [u16]) -> bool
+        requires { (k ≤ most_sections) × (i.0 ≤ most_picks) }
+        ensures { Stores (split_by self.now.rows.now self.now.radii.radius.now self.now.radii.held.n
+            (longest_of self.now.radii.held.n self.now.radii.held.longest.0) k i.0) ends.old result ends.new }
+    {
+        if k == 0 {
+            return i.0 == 0;
+        }
+        let Some(j) = self.first_start(k - 1, i) else {
+            return false;
+        };
+        if self.split_into(k - 1, j, ends) {
+            store(ends, usize::from(k - 1), i.0 as u16);
+            return true;
+        }
+        false
     }
 }
 
@@ -102,14 +94,12 @@ fn turns_in(len: usize) -> usize
 pub fn turn_count(ends: &[u16]) -> usize
     ensures { result ≡ turn_count ends.now }
 {
-    let mut turns = 0usize;
-    let mut a = 0usize;
-    let mut j = 0usize;
-    while j < ends.len() {
-        let e = wide(at(ends, j));
-        turns = turns + turns_in(minus(e, a));
+    let mut turns = 0;
+    let mut a = 0;
+    for &end in ends {
+        let e = usize::from(end);
+        turns += turns_in(e.saturating_sub(a));
         a = e;
-        j = j + 1;
     }
     turns
 }

@@ -1,7 +1,8 @@
 -- Laws of `decimal`: its digits one by one, what they say, and how many they are.
-use Rattle.std.specs.Prelude.{◌≡◌, refl, ◌≢◌, List, [], ◌∷◌, ◌++◌, ℕ, zero, suc, ◌+◌, ◌-◌, ◌*◌, ◌/◌, ◌%◌, ◌^◌, ◌≤◌, ◌<◌, length, get_or}
+use Rattle.std.specs.Prelude.{◌≡◌, refl, ◌≢◌, List, [], ◌∷◌, ◌++◌, ℕ, zero, suc, ◌+◌, ◌-◌, ◌*◌, ◌/◌, ◌%◌, ◌^◌, ◌≤◌, ◌<◌, max, length, get_or}
 use Rattle.std.proofs.Common.{sym, ap, ◌∙◌, arith, length-append, lt-ltb, le-ltb}
 use Rattle.std.proofs.Math.Decide.{dec_lt}
+use Rattle.std.proofs.Math.Nat.{pow-succ'}
 use Rattle.std.proofs.Math.ListN.{get_or-append}
 use Rattle.std.proofs.lemmas.List.{get_or_at}
 use Rattle.text.specs.Definitions.{digit_zero, digits, decimal}
@@ -112,6 +113,21 @@ pub length_some : (n : ℕ) → 0 < length (decimal n)
 length_some n = elim (dec_lt n 10) [
   | yes x ↦ omega (arith, length_digit_lem n x)
   | no x ↦ omega (arith, length_more n (omega arith))
+]
+
+power_above : (k : ℕ) → suc k ≤ 10 ^ k
+power_above zero = omega arith
+power_above (suc k) = omega (arith, power_above k)
+
+length_above : (k n : ℕ) → 10 ^ k ≤ n → suc k ≤ length (decimal n)
+length_above zero n h = length_some n
+length_above (suc k) n h = omega (arith, length_more n (omega (arith, power_above k)), length_above k (n / 10) (omega arith))
+
+-- one more than its logarithm; 0 has as many as 1
+pub length_power : (n k : ℕ) → 10 ^ k ≤ max n 1 → max n 1 < 10 * 10 ^ k → length (decimal n) ≡ k + 1
+length_power n k h l = elim (dec_lt n 1) [
+  | yes x ↦ omega (arith, length_digit_lem n (omega arith), power_above k)
+  | no x ↦ let z : n < 10 ^ suc k = rw (pow-succ' 10 k) (omega arith) in omega (arith, length_above k n (omega arith), length_within k n z)
 ]
 
 -- a number of 64 bits has at most twenty

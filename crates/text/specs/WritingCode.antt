@@ -1,6 +1,7 @@
 -- How the writers go their way: one step of each loop and its end. What the code computed are variables here, each tied by an equation.
 use Rattle.std.specs.Prelude.{◌≡◌, refl, List, ℕ, zero, suc, ◌+◌, ◌-◌, ◌/◌, ◌%◌, ◌≤◌, ◌<◌, length, set}
 use Rattle.std.proofs.Common.{ap₂, ◌∙◌, add-zero, le_refl, arith, take_all}
+use Rattle.std.proofs.Math.Decide.{dec_lt}
 use Rattle.std.proofs.Math.Nat.{sub-zero}
 use Rattle.std.proofs.lemmas.List.Edits.{sets}
 use Rattle.words.specs.Definitions.{word, stretch}
@@ -39,6 +40,33 @@ module _ (l l' : List ℕ) (place last n d : ℕ) (ends : last + 1 ≡ place + l
   digits_end h e =
       let at : last ≡ place = omega (arith, ends, length_digit_lem n h) in
       rw (stored, e, at, decimal_digit n h)
+
+-- the digits of `left` are still to be stored, the last of them right before `last`; or none is, and those of n are
+pub record Left (l₀ l : List ℕ) (place last n left : ℕ) : Type 0 where
+  pub some : place < last → (last ≡ place + length (decimal left)) × (sets l place (decimal left) ≡ sets l₀ place (decimal n))
+  pub none : last ≤ place → l ≡ sets l₀ place (decimal n)
+
+pub digits_begin : (l : List ℕ) (place next n : ℕ) → next ≡ place + length (decimal n) → Left l l place next n n
+digits_begin l place next n e = record { some = λ h. (e, refl); none = λ h. absurd (omega (arith, length_some n)) }
+
+pub digits_turn : (l₀ l l' : List ℕ) (place last n left d : ℕ) → place < last → Left l₀ l place last n left → l' ≡ set l (last - 1) d
+    → d ≡ digit_zero + left % 10 → Left l₀ l' place (last - 1) n (left / 10)
+digits_turn l₀ l l' place last n left d h k e f = elim (dec_lt left 10) [
+  | yes x ↦ record {
+    some = λ m. absurd (omega (arith, q.0, length_digit_lem left x));
+    none = λ m. digits_end l l' place (last - 1) left d ends e x (f ∙ omega arith) ∙ q.1;
+  }
+  | no x ↦ record {
+    some = λ m. (omega (arith, q.0, length_more left (omega arith)), digits_on l l' place (last - 1) left d ends e (omega arith) f ∙ q.1);
+    none = λ m. absurd (omega (arith, q.0, length_more left (omega arith), length_some (left / 10)));
+  }
+]
+  where
+    q : (last ≡ place + length (decimal left)) × (sets l place (decimal left) ≡ sets l₀ place (decimal n))
+    q = k.some h
+
+    ends : last - 1 + 1 ≡ place + length (decimal left)
+    ends = omega (arith, q.0)
 
 -- there is a place before the last digit of several
 pub digits_before : (place last n : ℕ) → last + 1 ≡ place + length (decimal n) → 10 ≤ n

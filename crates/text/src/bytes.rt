@@ -3,27 +3,25 @@ ghost use Rattle.std.specs.Prelude.{[], ◌∷◌, ◌+◌, ◌≤◌, ◌<◌, 
 ghost use Rattle.words.specs.Definitions.{word, stretch};
 ghost use Rattle.text.specs.Writes.{Writes, far};
 
-use cells::{Letters, byte_at, store_byte};
+use cells::store;
 
 // One byte, and the place after it.
 pub fn write_byte(byte: u8, output: &mut [u8], at: usize) -> usize
     requires { at < far }
     ensures { Writes output.old at (byte ∷ []) output.new result }
 {
-    store_byte(output, at, byte);
+    store(output, at, byte);
     at + 1
 }
 
 // The count bytes after the first a, 0 where there are none, and the place after them.
-fn write_part(source: &[u8], a: usize, count: usize, output: &mut [u8], at: usize) -> usize
+pub fn write_part(source: &[u8], a: usize, count: usize, output: &mut [u8], at: usize) -> usize
     requires { (a + count ≤ far) × (at + count ≤ far) }
     ensures { Writes output.old at (stretch (word source.now) a count) output.new result }
 {
-    let mut j = 0usize;
-    while j < count {
-        let byte = byte_at(source, a + j);
-        store_byte(output, at + j, byte);
-        j = j + 1;
+    // by index, in place of a copy of slices: either of the two places may lie outside
+    for j in 0..count {
+        store(output, at + j, cells::at(source, a + j, 0));
     }
     at + count
 }
@@ -34,18 +32,4 @@ pub fn write_bytes(bytes: &[u8], output: &mut [u8], at: usize) -> usize
     ensures { Writes output.old at bytes.now output.new result }
 {
     write_part(bytes, 0, bytes.len(), output, at)
-}
-
-// The count letters after the first a, and the place after them.
-pub fn write_letters(
-    letters: &Letters,
-    a: usize,
-    count: usize,
-    output: &mut [u8],
-    at: usize,
-) -> usize
-    requires { (a + count ≤ far) × (at + count ≤ far) }
-    ensures { Writes output.old at (stretch (word letters.now) a count) output.new result }
-{
-    write_part(letters, a, count, output, at)
 }

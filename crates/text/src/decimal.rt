@@ -1,11 +1,11 @@
-// Numbers in decimal, without leading zeros.
+// Numbers in decimal, without leading zeros. By hand, since what lies outside of the output is dropped, where `write!` would stop.
 ghost use Rattle.std.specs.Prelude.{◌≡◌, ◌+◌, ◌≤◌, ◌<◌, length};
 ghost use Rattle.text.specs.Definitions.{digit_zero, decimal};
 ghost use Rattle.text.specs.Decimal.{most_digits};
 ghost use Rattle.text.specs.Writes.{Writes, far};
 
 use crate::DIGIT_ZERO;
-use cells::store_byte;
+use cells::store;
 
 const BASE: usize = 10;
 
@@ -18,16 +18,11 @@ fn digit(d: usize) -> u8
 }
 
 // How many digits n has.
+#[tactic(auto, using(crate::specs::Decimal::length_power))]
 pub fn digit_count(n: usize) -> usize
     ensures { (result ≡ length (decimal n)) × (0 < result) × (result ≤ most_digits) }
 {
-    let mut left = n;
-    let mut count = 1usize;
-    while BASE <= left {
-        left = left / BASE;
-        count = count + 1;
-    }
-    count
+    n.max(1).ilog10() as usize + 1
 }
 
 // The digits of n, the last one first, and the place after them.
@@ -38,12 +33,9 @@ pub fn write_decimal(n: usize, output: &mut [u8], at: usize) -> usize
 {
     let next = at + digit_count(n);
     let mut left = n;
-    let mut last = next - 1;
-    while BASE <= left {
-        store_byte(output, last, digit(left % BASE));
-        left = left / BASE;
-        last = last - 1;
+    for last in (at..next).rev() {
+        store(output, last, digit(left % BASE));
+        left /= BASE;
     }
-    store_byte(output, last, digit(left));
     next
 }

@@ -1,5 +1,6 @@
 // Text: the bytes that part fields and close lines, and writers of bytes into a lent output from a place on.
-// Outside of the output nothing is stored.
+// Outside of the output nothing is stored. The place is a parameter beside the output: a struct of both would have to say in each contract
+// that it still holds the same output.
 #![tactic(auto)]
 
 pub mod bytes;

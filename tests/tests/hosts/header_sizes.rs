@@ -9,54 +9,94 @@ use std::fs::{read_to_string, remove_file, write};
 use std::mem::{offset_of, size_of};
 
 /// The Rattle sources that the header repeats.
-const SOURCES: [&str; 4] = [
+const SOURCES: [&str; 5] = [
     "../crates/cells/src/lib.rt",
     "../crates/drive/src/numbers.rt",
     "../crates/drive/src/request.rt",
+    "../crates/drive/src/follow.rt",
     "../crates/drive/src/lib.rt",
 ];
 
 /// Each constant in Rattle, in the header and in the Rust package.
-const CONSTANTS: [(&str, &str, usize); 16] = [
+const CONSTANTS: [(&str, &str, usize); 7] = [
     ("PICKS", "BOARD_PICKS", board::PICKS),
     ("ALPHABET", "BOARD_ALPHABET", board::ALPHABET),
     ("MARKS", "BOARD_MARKS", board::MARKS),
     ("SECTIONS", "BOARD_SECTIONS", board::SECTIONS),
     ("VISITS", "BOARD_VISITS", board::VISITS),
-    ("CENTRE_LANES", "BOARD_CENTRE_LANES", board::CENTRE_LANES),
-    ("RADIUS", "BOARD_RADIUS_LANE", board::RADIUS),
-    ("LENDS", "BOARD_LENDS_LANE", board::LENDS),
-    ("NEXT", "BOARD_NEXT_LANE", board::NEXT),
-    ("PREV", "BOARD_PREV_LANE", board::PREV),
-    ("PLACE_LANES", "BOARD_PLACE_LANES", board::PLACE_LANES),
-    ("HEADS", "BOARD_HEADS_LANE", board::HEADS),
-    ("ROWS", "BOARD_ROWS_LANE", board::ROWS),
-    ("GATHERED", "BOARD_GATHERED_LANE", board::GATHERED),
     ("CALL_SIZE", "BOARD_CALL_SIZE", board::CALL_BYTES),
     ("ANSWER_SIZE", "BOARD_ANSWER_SIZE", board::ANSWER_NUMBERS),
 ];
 
+/// Each lane's place among its own, by the field that it is in Rattle, in C; the same in the
+/// header and in the Rust package.
+const LANES: [(&str, &str, usize); 9] = [
+    (
+        "sizeof(struct Centres) / sizeof(ByCentre)",
+        "BOARD_CENTRE_LANES",
+        board::CENTRE_LANES,
+    ),
+    (
+        "offsetof(struct Centres, radius) / sizeof(ByCentre)",
+        "BOARD_RADIUS_LANE",
+        board::RADIUS,
+    ),
+    (
+        "offsetof(struct Centres, lends) / sizeof(ByCentre)",
+        "BOARD_LENDS_LANE",
+        board::LENDS,
+    ),
+    (
+        "offsetof(struct Centres, next) / sizeof(ByCentre)",
+        "BOARD_NEXT_LANE",
+        board::NEXT,
+    ),
+    (
+        "offsetof(struct Centres, prev) / sizeof(ByCentre)",
+        "BOARD_PREV_LANE",
+        board::PREV,
+    ),
+    (
+        "sizeof(struct Places) / sizeof(ByPlace)",
+        "BOARD_PLACE_LANES",
+        board::PLACE_LANES,
+    ),
+    (
+        "offsetof(struct Places, heads) / sizeof(ByPlace)",
+        "BOARD_HEADS_LANE",
+        board::HEADS,
+    ),
+    (
+        "offsetof(struct Places, rows) / sizeof(ByPlace)",
+        "BOARD_ROWS_LANE",
+        board::ROWS,
+    ),
+    (
+        "offsetof(struct Places, gathered) / sizeof(ByPlace)",
+        "BOARD_GATHERED_LANE",
+        board::GATHERED,
+    ),
+];
+
 /// Each call's number in Rattle and in the header.
 const CALLS: [(&str, &str); 12] = [
-    ("START", "BOARD_START_CALL"),
-    ("FEED", "BOARD_FEED_CALL"),
-    ("LOAD", "BOARD_LOAD_CALL"),
-    ("MARK", "BOARD_MARK_CALL"),
-    ("BACK", "BOARD_BACK_CALL"),
-    ("SPLIT", "BOARD_SPLIT_CALL"),
-    ("LONGEST_ENDING", "BOARD_LONGEST_CALL"),
-    ("MASK", "BOARD_MASK_CALL"),
-    ("RADIUS_AT", "BOARD_RADIUS_CALL"),
-    ("NEXT_SHORTER", "BOARD_NEXT_CALL"),
-    ("RECORD", "BOARD_RECORD_CALL"),
-    ("LIFT", "BOARD_LIFT_CALL"),
+    ("Op_Start", "BOARD_START_CALL"),
+    ("Op_Feed", "BOARD_FEED_CALL"),
+    ("Op_Load", "BOARD_LOAD_CALL"),
+    ("Op_Mark", "BOARD_MARK_CALL"),
+    ("Op_Back", "BOARD_BACK_CALL"),
+    ("Op_Split", "BOARD_SPLIT_CALL"),
+    ("Op_LongestEnding", "BOARD_LONGEST_CALL"),
+    ("Op_Mask", "BOARD_MASK_CALL"),
+    ("Op_RadiusAt", "BOARD_RADIUS_CALL"),
+    ("Op_NextShorter", "BOARD_NEXT_CALL"),
+    ("Op_Record", "BOARD_RECORD_CALL"),
+    ("Op_Lift", "BOARD_LIFT_CALL"),
 ];
 
 /// What follows from the counts of the calls and the sizes of the Rattle types, in C.
-const LAYOUT: [&str; 27] = [
-    "BOARD_BACK_CALL + 1 == WRITING_CALLS",
-    "(size_t)BOARD_SPLIT_CALL == FIRST_QUERY",
-    "(size_t)BOARD_CALLS == FIRST_QUERY + QUERIES",
+const LAYOUT: [&str; 25] = [
+    "(size_t)BOARD_CALLS == Op_Lift + 1",
     "BOARD_CENTRES == sizeof(ByCentre) / sizeof(uint16_t)",
     "BOARD_PLACES == sizeof(ByPlace) / sizeof(uint16_t)",
     "BOARD_RECORD == PICKS / 2 + 7 * SECTIONS + 8",
@@ -110,9 +150,10 @@ fn of_rust() -> Vec<String> {
             "3 * sizeof(size_t)",
         ),
     ];
-    let constants = CONSTANTS.map(|(name, _, value)| format!("{value} == {name}"));
+    let constants = CONSTANTS.into_iter().chain(LANES);
+    let constants = constants.map(|(name, _, value)| format!("{value} == {name}"));
     let sizes = sizes.map(|(value, size)| format!("{value} == {size}"));
-    constants.into_iter().chain(sizes).collect()
+    constants.chain(sizes).collect()
 }
 
 /// The text of the Rattle sources.
@@ -124,10 +165,11 @@ fn sources() -> String {
 /// What the compiler says to a file with the header, the declarations of the Rattle
 /// sources and all that must hold; nothing where it takes it.
 fn refusal(sources: &str, name: &str) -> Option<String> {
-    let constants = CONSTANTS.map(|(rattle, header, _)| format!("(size_t){header} == {rattle}"));
+    let constants = CONSTANTS.into_iter().chain(LANES);
+    let constants = constants.map(|(rattle, header, _)| format!("(size_t){header} == {rattle}"));
     let calls = CALLS.map(|(rattle, header)| format!("(size_t){header} == {rattle}"));
     let layout = LAYOUT.map(String::from);
-    let numbers = constants.into_iter().chain(calls);
+    let numbers = constants.chain(calls);
     let facts = numbers.chain(layout).chain(of_rust());
     let facts = facts.map(|fact| format!("_Static_assert({fact}, \"{fact}\");\n"));
     let (declared, asserted) = (declarations(sources), facts.collect::<String>());
@@ -147,6 +189,16 @@ fn the_header_and_the_package_are_those_of_the_sources() {
     let three_numbers = "numbers: &mut [usize; 3],";
     assert!(sources.contains(three_numbers), "no {three_numbers}");
     assert_eq!(refusal(&sources, "as_they_are"), None);
+}
+
+/// The header has each call that there is.
+#[test]
+fn there_are_no_other_calls() {
+    let declared = declarations(&sources());
+    let names = declared
+        .lines()
+        .filter_map(|line| line.strip_prefix("enum { Op_"));
+    assert_eq!(names.count(), CALLS.len());
 }
 
 /// The functions that are given no state, declared in C as the sources have them.
@@ -198,10 +250,7 @@ fn assert_refused(changed: &str, name: &str, said: &str) {
 #[test]
 fn a_changed_constant_is_refused() {
     let sources = sources();
-    let constants = CONSTANTS.map(|(name, _, _)| name).into_iter();
-    let calls = CALLS.map(|(name, _)| name).into_iter();
-    let counts = ["WRITING_CALLS", "FIRST_QUERY", "QUERIES"];
-    for name in constants.chain(calls).chain(counts) {
+    for (name, _, _) in CONSTANTS {
         let line = format!("const {name}: ");
         let (_, behind) = sources.split_once(&line).expect(name);
         let (old, _) = behind.split_once(';').expect("the end of the constant");
@@ -212,7 +261,22 @@ fn a_changed_constant_is_refused() {
     }
 }
 
-/// So is a type that is another, and a parameter.
+/// So is a call's number.
+#[test]
+fn a_changed_number_is_refused() {
+    let sources = sources();
+    for (name, _) in CALLS {
+        let call = name.replace("Op_", " => Ok(Op::") + ")";
+        let (before, _) = sources.split_once(&call).expect(name);
+        let (_, number) = before.rsplit_once(' ').expect("a number");
+        let old = format!(" {number}{call}");
+        let new = format!(" 1{number}{call}");
+        let changed = changed(&sources, &old, &new);
+        assert_refused(&changed, name, "static assertion failed");
+    }
+}
+
+/// So is a type that is another, a field in another place, and a parameter.
 #[test]
 fn a_changed_type_is_refused() {
     let failed = "static assertion failed";
@@ -223,14 +287,32 @@ fn a_changed_type_is_refused() {
         ("[u8; ALPHABET]", "[u16; ALPHABET]", failed),
         ("[u16; ALPHABET]", "[u16; ALPHABET + 1]", failed),
         ("[u16; ALPHABET]", "[u8; ALPHABET]", failed),
-        ("[u16; PICKS + 1]", "[u16; PICKS + 2]", failed),
-        ("[u16; PICKS + 1]", "[u8; PICKS + 1]", failed),
-        ("[u16; 2 * PICKS + 2]", "[u16; 2 * PICKS + 1]", failed),
+        ("= PICKS + 1;", "= PICKS + 2;", failed),
+        ("[u16; BY_PLACE]", "[u8; BY_PLACE]", failed),
+        ("= 2 * PICKS + 2;", "= 2 * PICKS + 1;", failed),
+        ("lends: ByCentre", "lends: ByPlace", failed),
         (
-            "[ByCentre; CENTRE_LANES]",
-            "[ByPlace; CENTRE_LANES]",
+            "    pub radius: ByCentre,\n    pub lends: ByCentre,",
+            "    pub lends: ByCentre,\n    pub radius: ByCentre,",
             failed,
         ),
+        (
+            "    pub next: ByCentre,\n    pub prev: ByCentre,",
+            "    pub prev: ByCentre,\n    pub next: ByCentre,",
+            failed,
+        ),
+        (
+            "    pub heads: ByPlace,\n    pub rows: ByPlace,",
+            "    pub rows: ByPlace,\n    pub heads: ByPlace,",
+            failed,
+        ),
+        (
+            "    pub rows: ByPlace,\n    pub gathered: ByPlace,",
+            "    pub gathered: ByPlace,\n    pub rows: ByPlace,",
+            failed,
+        ),
+        ("    pub prev: ByCentre,\n", "", failed),
+        ("    pub gathered: ByPlace,\n", "", failed),
         (
             "pub extern \"C\" fn drive_section(record: &[u8], at: usize,",
             "pub extern \"C\" fn drive_section(record: &[u8], at: u16,",

@@ -1,40 +1,81 @@
-//! The text as Rust is the text: nothing but clauses is left out, and what is not known is
-//! refused.
+//! The text as Rust is the text: nothing but clauses and ghost members is left out, and what is not
+//! known is refused.
 
 use as_rust::sources::{Text, DRAFT, EDGES, LIBRARY};
-use as_rust::text::{rust_of, COPIED, DROPPED, MAIN, RUST_MAIN};
+use as_rust::text::{rust_of, AS_IN_C, DERIVED, FMT, MAIN, RUST_FMT, RUST_MAIN};
 use comparison::support::executables::of_text;
 use std::fs;
 use std::path::Path;
 use std::process::Command;
 
-/// What opens a clause, behind the signature of its function, and the brace that opens the body.
-const OPENINGS: [&str; 2] = ["\n    requires ", "\n    ensures "];
-const BODY: &str = "\n{\n";
+/// What opens a clause of a function, and the brace that opens its body; the same of a function of
+/// a trait or an `impl`.
+const OPENINGS: [(&str, &str); 4] = [
+    ("\n    requires ", "\n{\n"),
+    ("\n    ensures ", "\n{\n"),
+    ("\n        requires ", "\n    {\n"),
+    ("\n        ensures ", "\n    {\n"),
+];
+
+/// The end of the last clause of a function that has no body.
+const BODILESS: &str = " };\n";
 
 /// The source without its clauses, by where the contracts begin and the bodies in the whole text.
 /// Gives the number of clauses too.
 fn without_clauses(source: &str) -> (String, usize) {
     let (mut kept, mut rest, mut clauses) = (String::new(), source, 0);
-    while let Some(from) = OPENINGS.iter().filter_map(|word| rest.find(word)).min() {
+    let first = |rest: &str| {
+        let found = OPENINGS.map(|(word, body)| rest.find(word).map(|from| (from, body)));
+        found.into_iter().flatten().min()
+    };
+    while let Some((from, body)) = first(rest) {
         let (front, behind) = rest.split_at(from);
-        let (contract, _) = behind.split_once(BODY).expect("a body");
+        let with_body = behind.find(body).unwrap_or(behind.len());
+        let contract = match behind.find(BODILESS) {
+            Some(end) if end < with_body => &behind[..end + " }".len()],
+            _ => &behind[..with_body],
+        };
         kept.push_str(front);
         rest = &behind[contract.len()..];
-        let opened = OPENINGS.map(|word| contract.matches(word).count());
+        let opened = OPENINGS.map(|(word, _)| contract.matches(word).count());
         clauses += opened.iter().sum::<usize>();
     }
     kept.push_str(rest);
     (kept, clauses)
 }
 
+/// What opens a ghost member, and what closes it: of a struct with a comma.
+const MEMBERS: [&str; 2] = ["\n    ghost ", "\n    pub ghost "];
+const CLOSINGS: [&str; 2] = ["};\n", "},\n"];
+
+/// The source without its ghost members.
+fn without_members(source: &str) -> String {
+    let (mut kept, mut rest) = (String::new(), source);
+    let first = |rest: &str| MEMBERS.iter().filter_map(|word| rest.find(word)).min();
+    while let Some(from) = first(rest) {
+        let (front, behind) = rest.split_at(from);
+        kept.push_str(front);
+        let ends = CLOSINGS.iter().filter_map(|end| behind.find(end)).min();
+        let import = behind.starts_with("\n    ghost use ");
+        let end = if import {
+            behind.find(";\n").map(|end| end + 1)
+        } else {
+            ends.map(|end| end + 2)
+        };
+        rest = &behind[end.expect("its end")..];
+    }
+    kept.push_str(rest);
+    kept
+}
+
 /// How a line begins that is left out for what it is.
-const LEFT: [&str; 6] = [
+const LEFT: [&str; 7] = [
     "ghost use ",
-    DROPPED,
+    "#[derive(Drop)]",
     "#[unsafe(no_mangle)]",
     "#![tactic(",
     "#[tactic(",
+    "    #[tactic(",
     "#[cycle(",
 ];
 
@@ -53,25 +94,35 @@ fn nothing_but_clauses_is_left_out() {
     let mut all = 0;
     for (path, source) in &text().sources {
         let rust = rust_of(source).unwrap_or_else(|unknown| panic!("{path}, {unknown}"));
-        let (expected, clauses) = without_clauses(source);
-        let expected = expected.replace(MAIN, RUST_MAIN);
+        let (expected, clauses) = without_clauses(&without_members(source));
+        let expected = expected.replace(MAIN, RUST_MAIN).replace(FMT, RUST_FMT);
+        let expected = expected.replace(", Drop)]", ")]");
         let written: Vec<&str> = rust.lines().collect();
         assert_eq!(written, plain_lines(&expected), "{path}");
         all += clauses;
     }
-    assert!(all > 300, "{all} clauses");
+    assert!(all > 280, "{all} clauses");
 }
 
+/// A derive, with `Clone` and `Copy`, or with `Drop` where the type has a lifetime, and for C the
+/// line that says so.
 #[test]
 fn a_line_stands_before_each_type_alone() {
     for (path, source) in &text().sources {
-        for pair in source.lines().collect::<Vec<_>>().windows(2) {
-            let derived = [COPIED, DROPPED].contains(&pair[0]);
-            let mut words = pair[1].split(' ').filter(|word| *word != "pub");
+        let mut above = Vec::new();
+        for line in source.lines() {
+            if line.starts_with("#[derive(") || line == AS_IN_C {
+                above.push(line);
+                continue;
+            }
+            let mut words = line.split(' ').filter(|word| *word != "pub");
             let opens = ["struct", "enum"].contains(&words.next().unwrap_or_default());
-            assert_eq!(derived, opens, "{path}: {}", pair[1]);
-            let copied = pair[0] == COPIED;
-            assert_eq!(copied, opens && !pair[1].contains('<'), "{path}: {}", pair[1]);
+            above.retain(|line| *line != AS_IN_C || !opens);
+            assert_eq!(above.len(), usize::from(opens), "{path}: {line}");
+            let derive = above.pop().unwrap_or_default();
+            let (copied, dropped) = (derive.contains("Clone, Copy"), derive.contains("Drop"));
+            assert_eq!(copied ^ dropped, opens, "{path}: {line}");
+            assert!(!dropped || line.contains('\''), "{path}: {line}");
         }
     }
 }
@@ -125,8 +176,10 @@ fn attributes_before_a_function() {
         "#[inline]",
         "#[no_mangle]",
         "#[derive(Debug)]",
-        COPIED,
-        DROPPED,
+        "#[derive(Clone, Copy)]",
+        "#[derive(Drop)]",
+        AS_IN_C,
+        "    #[tactic(auto)]",
         "#[tactic(auto)] #[inline]",
         "#[tactic(auto,",
     ] {
@@ -142,10 +195,152 @@ fn attributes_before_a_type() {
         "enum Side {",
         "pub struct Reader<'a> {",
     ] {
-        assert_eq!(typed(COPIED, line), Ok(format!("{COPIED}\n{line}\n")));
-        assert_eq!(typed(DROPPED, line), Ok(format!("{line}\n")));
-        assert!(typed("#[derive(Debug)]", line).is_err(), "{line}");
+        let all = format!("#[derive({})]", DERIVED.join(", "));
+        for known in ["#[derive(Clone, Copy)]", AS_IN_C, &all] {
+            assert_eq!(typed(known, line), Ok(format!("{known}\n{line}\n")));
+        }
+        assert_eq!(typed("#[derive(Drop)]", line), Ok(format!("{line}\n")));
+        let dropped = typed("#[derive(Debug, Drop)]", line);
+        assert_eq!(dropped, Ok(format!("#[derive(Debug)]\n{line}\n")));
+        let two = format!("{AS_IN_C}\n#[derive(Clone, Copy)]");
+        assert_eq!(typed(&two, line), Ok(format!("{two}\n{line}\n")));
+        for unknown in [
+            "#[derive(Clone, Hash)]",
+            "#[derive(Clone,Copy)]",
+            "#[repr(u8)]",
+            "#[derive(Drop",
+        ] {
+            assert!(typed(unknown, line).is_err(), "{unknown} {line}");
+        }
     }
+}
+
+/// A block of an item, and the same without these lines of it.
+fn block(item: &str, lines: &str) -> String {
+    format!("{item} {{\n{lines}}}\n")
+}
+
+#[test]
+fn a_contract_of_a_method_is_left_out() {
+    let contract =
+        "        requires { self.old.x < 4 }\n        ensures { self.new\n            ≡ f }\n";
+    let method =
+        |contract| format!("    pub fn f(&self) -> u8\n{contract}    {{\n        self.x\n    }}\n");
+    let source = block("impl Pair", &method(contract));
+    assert_eq!(rust_of(&source), Ok(block("impl Pair", &method(""))));
+    let attribute = format!(
+        "    #[tactic(auto, using(crate::proofs::Facts::fact))]\n{}",
+        method(contract)
+    );
+    assert_eq!(rust_of(&block("impl Pair", &attribute)), rust_of(&source));
+}
+
+#[test]
+fn a_function_of_a_trait_ends_behind_its_signature() {
+    let contract = "        requires { x < 4 }\n        ensures { P { result }\n            x };\n";
+    let source = block(
+        "pub trait Index<const N: usize>: Copy",
+        &format!("    fn f(self, x: u8) -> u8\n{contract}\n    fn g(self);\n"),
+    );
+    let rust = block(
+        "pub trait Index<const N: usize>: Copy",
+        "    fn f(self, x: u8) -> u8;\n\n    fn g(self);\n",
+    );
+    assert_eq!(rust_of(&source), Ok(rust));
+    let outside = "fn f(x: u8) -> u8\n    ensures { x };\n";
+    assert!(rust_of(outside).is_err());
+}
+
+#[test]
+fn ghost_members_are_left_out() {
+    let without = |item| Ok(block(item, "    x: u8,\n"));
+    let with = |item, member: &str| rust_of(&block(item, &format!("    x: u8,\n{member}")));
+    for item in [
+        "pub trait Small: Copy",
+        "impl Small for Pair",
+        "impl<T> Small for (T, T)",
+    ] {
+        for member in [
+            "    ghost number: { Self → ℕ };\n",
+            "    ghost number = { λ c. c.0 };\n",
+            "    ghost number: { Self → ℕ } = { λ _. 0 };\n",
+            "    ghost laws: {\n        (x : ℕ) → P { x }\n    };\n",
+            "    ghost use Rattle.std.specs.Prelude.{ℕ};\n",
+        ] {
+            assert_eq!(with(item, member), without(item), "{item} {member}");
+        }
+    }
+    for member in [
+        "    ghost low: { x < 4 },\n",
+        "    pub ghost low: { x < 4 },\n",
+    ] {
+        assert_eq!(with("pub struct Low", member), without("pub struct Low"));
+        assert!(with("enum Low", member).is_err(), "{member}");
+        assert!(with("impl Low", member).is_err(), "{member}");
+    }
+    for member in [
+        "    ghost number = { λ c. c.0 }\n",
+        "    ghost number = { λ c. c.0 }; // c\n",
+        "    ghost number = λ c. c.0;\n",
+        "    ghost a number = { c };\n",
+        "        ghost number = { c };\n",
+        "    ghost number = { c\n",
+        "    ghost let x = { c };\n",
+    ] {
+        assert!(with("impl Small for Pair", member).is_err(), "{member}");
+    }
+    assert!(rust_of("ghost number = { c };\n").is_err());
+    assert!(rust_of(&function("", "    ghost number = { c };\n")).is_err());
+}
+
+/// Generic functions, constants as parameters and as arguments stand as they are.
+#[test]
+fn generic_functions_are_left_as_they_are() {
+    let line =
+        "pub fn entry<T: Copy, const N: usize, I: Index<N>>(array: &[T; N], i: I, outside: T) -> T";
+    let contract = "    ensures { result ≡ get_or array.now (I.number i) outside }\n";
+    let body = "{\n    at(array, i.number(), outside)\n}\n";
+    let rust = format!("{line}\n{body}");
+    assert_eq!(rust_of(&format!("{line}\n{contract}{body}")), Ok(rust));
+    let bounds = "fn f<T>(x: T) -> T\nwhere\n    T: Copy,\n";
+    let rust = format!("{bounds}{{\n    x\n}}\n");
+    let source = format!("{bounds}    ensures {{ result ≡ x }}\n{{\n    x\n}}\n");
+    assert_eq!(rust_of(&source), Ok(rust));
+    let of = block(
+        "impl Index<{ BY_CENTRE }> for Centre",
+        "    type Error = Refusal;\n",
+    );
+    assert_eq!(rust_of(&of), Ok(of));
+}
+
+/// A type that is printed, one that is made of a byte, and an iterator.
+#[test]
+fn library_traits_are_left_as_they_are() {
+    let printed = |line: &str| {
+        block(
+            "impl fmt::Display for Refusal",
+            &format!("{line} {{\n        write!(f, \"refused\")\n    }}\n"),
+        )
+    };
+    assert_eq!(rust_of(&printed(FMT)), Ok(printed(RUST_FMT)));
+    let with = |member: &str, contract: &str| {
+        let line = "    fn try_from(op: u8) -> Result<Op, NoCall>\n";
+        block("impl TryFrom<u8> for Op", &format!("    type Error = NoCall;\n{member}{line}{contract}    {{\n        Err(NoCall)\n    }}\n"))
+    };
+    let source = with(
+        "    ghost try_from_gives = { Decodes };\n",
+        "        ensures { OkIff result (is_call op) }\n",
+    );
+    assert_eq!(rust_of(&source), Ok(with("", "")));
+    let with = |member: &str| {
+        let next = "    fn next(&mut self) -> Option<Section> {\n        None\n    }\n";
+        block(
+            "impl Iterator for Reader<'_>",
+            &format!("    type Item = Section;\n{member}{next}"),
+        )
+    };
+    let source = with("    ghost next_gives = { λ s r t. NextPromise s r t };\n");
+    assert_eq!(rust_of(&source), Ok(with("")));
 }
 
 #[test]
@@ -164,6 +359,10 @@ fn what_is_not_known_is_refused() {
         "    requires (x) { x }\n",
         "    ensures { x < 4 }}\n",
         "    decreases { x }\n",
+        "        ensures { x < 4 }\n",
+        "    ensures { x < 4 }\n    x: u8,\n",
+        "    ensures { x < 4 } = { 4 }\n",
+        "    ensures { x < 4 };\n",
     ];
     let lines = [
         "    ghost let y = x;\n",
@@ -176,6 +375,9 @@ fn what_is_not_known_is_refused() {
         "    prove!(x < 4);\n",
         "    #[tactic(auto)]\n",
         "    let y = rt(HostRuntime);\n",
+        "    let y: &dyn Drop = x;\n",
+        "    fn g<T: Copy + Drop>(x: T) {\n",
+        "    ensures { x < 4 }\n",
     ];
     let named = function("", "    ensures_it(x);\n");
     assert_eq!(rust_of(&named), Ok(named));

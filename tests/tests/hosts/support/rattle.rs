@@ -10,14 +10,19 @@ fn in_c(name: &str) -> &str {
     }
 }
 
-/// Each constant that is a number and each array type of the source, and then each
-/// exported function.
+/// Each constant that is a number, each array type and each call's number of the source, then
+/// each struct that stands in memory as C has it, and then each exported function.
 pub fn declarations(source: &str) -> String {
-    let lines = source
-        .lines()
-        .filter_map(|line| constant(line).or_else(|| array_type(line)));
+    let line = |line| {
+        constant(line)
+            .or_else(|| array_type(line))
+            .or_else(|| call(line))
+    };
+    let lines = source.lines().filter_map(line);
+    let structs = source.split(AS_IN_C).skip(1).map(of_arrays);
     let functions = source.split("pub extern \"C\" fn ").skip(1);
-    lines.chain(functions.filter_map(function)).collect()
+    let functions = functions.filter_map(function);
+    lines.chain(structs).chain(functions).collect()
 }
 
 /// `pub const PICKS: usize = 2048;` as an enum.
@@ -25,7 +30,15 @@ fn constant(line: &str) -> Option<String> {
     let line = line.strip_prefix("pub ").unwrap_or(line);
     let (name, rest) = line.strip_prefix("const ")?.split_once(": ")?;
     let (kind, value) = rest.strip_suffix(';')?.split_once(" = ")?;
+    let value = value.replace("b'", "'");
     (kind != in_c(kind)).then(|| format!("enum {{ {name} = {value} }};\n"))
+}
+
+/// `0 => Ok(Op::Start),` as an enum: the call of this number.
+fn call(line: &str) -> Option<String> {
+    let (number, call) = line.trim_start().split_once(" => Ok(Op::")?;
+    let name = call.strip_suffix("),")?;
+    Some(format!("enum {{ Op_{name} = {number} }};\n"))
 }
 
 /// `pub type ByPlace = [u16; PICKS + 1];` as a typedef.
@@ -44,6 +57,29 @@ fn array_of(array: &str, name: &str) -> Option<String> {
         .strip_suffix(']')?
         .split_once("; ")?;
     Some(format!("{} {name}[{count}]", in_c(element)))
+}
+
+/// The line before a struct that stands in memory as C has it.
+const AS_IN_C: &str = "#[repr(C)]\n";
+
+/// What stands behind that line, a struct of arrays of one type, as a struct, and as an array of
+/// that type by the same name.
+fn of_arrays(text: &str) -> String {
+    let (_, behind) = text.split_once("pub struct ").expect("a struct");
+    let (name, fields) = behind.split_once(" {\n").expect("its fields");
+    let (fields, _) = fields.split_once("\n}").expect("their end");
+    let fields: Option<Vec<(&str, &str)>> = fields.lines().map(field).collect();
+    let fields = fields.unwrap_or_else(|| panic!("{name} has other fields"));
+    let (_, kind) = fields[0];
+    let inside = fields.iter().map(|(name, kind)| format!("{kind} {name}; "));
+    let inside: String = inside.collect();
+    format!("struct {name} {{ {inside}}};\ntypedef {kind} {name}[sizeof(struct {name}) / sizeof({kind})];\n")
+}
+
+/// `    pub radius: ByCentre,` as its name and its type.
+fn field(line: &str) -> Option<(&str, &str)> {
+    let field = line.trim().strip_prefix("pub ")?.strip_suffix(',')?;
+    field.split_once(": ")
 }
 
 /// What stands behind `pub extern "C" fn` as a declaration.

@@ -1,17 +1,18 @@
-use Rattle.std.proofs.Common.{refl, ap, ◌∙◌, arith}
+use Rattle.std.proofs.Common.{refl, sym, ap, ◌∙◌, arith, take, get_or, length-take-le}
 use Rattle.promises.specs.Lifts.{lift_in}
 use Rattle.promises.proofs.BackLaws.{again_one}
 use Rattle.calls.proofs.back.feed_again.Goals as goal
 
-pub loop-held-preserved : goal.loop-held-preserved
-loop-held-preserved c =
+pub loop-letter-preserved : goal.loop-letter-preserved
+loop-letter-preserved c =
     let g = c.args in
-    let l = c.loop-held in
+    let l = c.loop-letter in
     let i = c.lift_in-code in
-    let code = i.ensures ∙ ap (lift_in g.lifts.now) c.letter_after.ensures in (
+    let size = length-take-le g.kept g.letters.now (omega arith) in (
       refl,
-      omega arith,
-      again_one g.k l.held.n g.kept i.result g.lifts.now g.letters.now c.loop-held-test.true c.requires.2 code l.invariant.0
+      omega (arith, l.invariant.1),
+      again_one g.k l.held.n g.kept i.result g.lifts.now g.letters.now (omega (arith, size, l.invariant.1, c.loop-letter-test.true)) c.requires.2
+          (i.ensures ∙ ap (λ j. lift_in g.lifts.now (get_or (take g.kept g.letters.now) j 0)) (sym l.invariant.1)) l.invariant.0
           c.append-a.ensures
           ∙ l.invariant.2,
     )

@@ -7,5 +7,4 @@ tell-requires c = (c.requires.0, omega (arith, fed_bound (c.feed-step.ensures []
 
 pub returns-clause-fills_on : goal.returns-clause-fills_on
 returns-clause-fills_on c =
-    λ marks. rw c.tell.ensures.numbers
-    (fills (c.feed-step.ensures marks) c.args.held.n c.feed-step.result c.tell.result _ refl refl refl refl c.tell.ensures)
+    λ marks. fills (c.feed-step.ensures marks) c.args.draft.now.numbers.n c.feed-step.result c.tell.result _ refl refl refl refl c.tell.ensures

@@ -7,9 +7,8 @@ unfolding line_of
 returns-in-Taken c =
     rw c.in-Taken.is (record {
       over = refl;
-      numbers = refl;
-      counts = c.pick_line-bytes.ensures.prefix_len;
-      bytes = rw c.ending_length-ending.ensures at c.pick_line-bytes.ensures.line_after;
+      counts = c.pick_line.ensures.prefix_len;
+      bytes = rw c.ending_length-ending.ensures at c.pick_line.ensures.line_after;
     })
 
 pub returns-in-Refused : goal.returns-in-Refused
@@ -17,7 +16,6 @@ unfolding line_of
 returns-in-Refused c =
     rw c.in-Refused.is (record {
       over = refl;
-      numbers = refl;
-      counts = c.refusal_line-bytes.ensures.prefix_len;
-      bytes = c.refusal_line-bytes.ensures.line_after;
+      counts = c.refusal_line.ensures.prefix_len;
+      bytes = c.refusal_line.ensures.line_after;
     })

@@ -6,6 +6,7 @@ use Rattle.draft.proofs.line.refusal_line.Goals as goal
 pub returns-clause-line_after : goal.returns-clause-line_after
 returns-clause-line_after c =
     let p = c.args in
-    (front (refusal_line p.number p.place)
-    (refusal_as p.number p.place c.write_bytes-first.ensures c.write_field-second.ensures.writes c.write_field.ensures.writes)
+    rw c.from.ensures at
+    (front (refusal_line c.from.result p.place)
+    (refusal_as c.from.result p.place c.write_bytes-first.ensures c.write_field-second.ensures.writes c.write_field.ensures.writes)
     (omega arith)).1

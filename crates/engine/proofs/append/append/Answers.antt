@@ -1,5 +1,4 @@
 use Rattle.std.proofs.Common.{refl, ◌+◌}
-use Rattle.cells.specs.Lanes.{by_centre, by_place}
 use Rattle.models.specs.Engine.{stepped_as}
 use Rattle.models.proofs.Core.{append_as, append_promised}
 use Rattle.engine.proofs.append.append.Goals as goal
@@ -12,6 +11,6 @@ returns c =
     let s = c.step-s in
     append_promised k.k k.n p.pick _ p.visits.now _ c.requires.0
     (append_as k.k k.n (k.n + 1) p.pick k.longest.0 i.result.0 p.letters.now i.new.letters
-    (by_centre p.centres.now) (by_centre i.new.centres) (by_place p.places.now) (by_place i.new.places) p.visits.now
-    (stepped_as (by_place s.new.places) s.new.visits s.result.row s.result.count)
+    p.centres.now i.new.centres p.places.now i.new.places p.visits.now
+    (stepped_as s.new.places s.new.visits s.result.row s.result.count)
     refl i.ensures.appends_letter.computes i.ensures.rest s.ensures)

@@ -1,5 +1,4 @@
 use Rattle.std.proofs.Common.{refl, sym, ◌∙◌, ◌+◌, ◌<◌, arith, bit_or}
-use Rattle.cells.specs.Lanes.{by_place}
 use Rattle.models.proofs.Walking.{walk_less}
 use Rattle.models.proofs.EngineCode.{walk_on_lem, walk_end}
 use Rattle.engine.proofs.visits.visit_all.Goals as goal
@@ -14,12 +13,12 @@ loop-len-preserved c =
     let v = c.visit-v in
     let d : v.result.next < l.len = loop-len-smaller c in
     let t = walk_on_lem p.next.now p.n l.invariant.0 l.len v.result.next v.result.word l.union (bit_or l.union v.result.word)
-    l.count (l.count + 1) c.narrow.result (by_place l.places) (by_place v.new.places) l.visits c.store.new.s l.invariant.1
-    c.loop-len-test.true v.ensures.next_value v.ensures.word v.ensures.stored c.narrow.ensures c.store.ensures refl refl in
+    l.count (l.count + 1) l.len l.places v.new.places l.visits c.store.new.s l.invariant.1
+    c.loop-len-test.true v.ensures.next_value v.ensures.word v.ensures.stored refl c.store.ensures refl refl in
     (t.0, t.1, omega (arith, l.invariant.2), t.2 ∙ l.invariant.3)
 
 pub returns : goal.returns
 returns c =
     let l = c.loop-len in
-    sym (walk_end c.args.next.now c.args.n l.invariant.0 l.len l.union l.count (by_place l.places) l.visits c.loop-len-test.false)
+    sym (walk_end c.args.next.now c.args.n l.invariant.0 l.len l.union l.count l.places l.visits c.loop-len-test.false)
     ∙ l.invariant.3

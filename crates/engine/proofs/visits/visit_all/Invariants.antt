@@ -1,5 +1,4 @@
 use Rattle.std.proofs.Common.{◌≡◌, ℕ, ◌+◌, ◌≤◌}
-use Rattle.cells.specs.Lanes.{by_place}
 use Rattle.models.specs.EngineCode.{seen_in}
 use Rattle.engine.proofs.visits.visit_all.Given as goal
 
@@ -7,8 +6,8 @@ use Rattle.engine.proofs.visits.visit_all.Given as goal
 abbrev pub invariant-loop-len : goal.invariant-loop-len
 invariant-loop-len l =
     (k : ℕ) × (l.len ≤ k) × (l.count + l.len ≤ l.longest)
-    × (seen_in l.next l.n k l.len l.union (by_place l.places) l.visits l.count
-    ≡ seen_in l.next l.n l.longest l.longest 0 (by_place l.fn.places) l.fn.visits 0)
+    × (seen_in l.next l.n k l.len l.union l.places l.visits l.count
+    ≡ seen_in l.next l.n l.longest l.longest 0 l.fn.places l.fn.visits 0)
 
 abbrev pub decreases-loop-len : goal.decreases-loop-len
 decreases-loop-len l = l.len

@@ -1,5 +1,4 @@
 use Rattle.std.proofs.Common.{◌≡◌, ◌≤◌, ℕ}
-use Rattle.cells.specs.Lanes.{by_centre}
 use Rattle.models.specs.IteratorCode.{unlinks_in}
 use Rattle.iterator.proofs.links.unlinks.Given as goal
 
@@ -7,7 +6,7 @@ use Rattle.iterator.proofs.links.unlinks.Given as goal
 abbrev pub invariant-loop-x : goal.invariant-loop-x
 invariant-loop-x l =
     (k : ℕ) × (l.x.0 ≤ k)
-    × (unlinks_in l.s.0 k l.x.0 (by_centre l.centres) ≡ unlinks_in l.s.0 l.fn.head.0 l.fn.head.0 (by_centre l.fn.centres))
+    × (unlinks_in l.s.0 k l.x.0 l.centres ≡ unlinks_in l.s.0 l.fn.head.0 l.fn.head.0 l.fn.centres)
 
 abbrev pub decreases-loop-x : goal.decreases-loop-x
 decreases-loop-x l = l.x.0

@@ -1,16 +1,17 @@
-use Rattle.std.proofs.Common.{◌∙◌, sym, arith}
-use Rattle.reader.specs.CheckCode.{number_follows, number_begins, number_zero}
+use Rattle.std.proofs.Common.{◌∙◌, sym}
+use Rattle.layout.specs.Reading.{is_digit}
+use Rattle.reader.specs.CheckCode.{number_back, number_own}
 use Rattle.reader.proofs.scan.number_at.Goals as goal
 
-pub loop-i-preserved : goal.loop-i-preserved
-loop-i-preserved c =
-    let l = c.loop-i in
-    number_follows c.args.bytes.now l.i c.loop-i-test.true (sym c.follows.ensures ∙ c.if-follows.true) ∙ l.invariant
+pub returns-then-is_ascii_digit : goal.returns-then-is_ascii_digit
+unfolding is_digit
+returns-then-is_ascii_digit c =
+    let d = c.digits_at in
+    number_back c.args.bytes.now c.args.place c.at.result c.at.ensures d.result
+    (sym c.is_ascii_digit.ensures.value ∙ c.if-is_ascii_digit.true) d.ensures.within d.ensures.digits d.ensures.before
 
-pub returns-else-follows : goal.returns-else-follows
-returns-else-follows c =
-    let l = c.loop-i in
-    number_begins c.args.bytes.now l.i c.loop-i-test.true (sym c.follows.ensures ∙ c.if-follows.false) ∙ l.invariant
-
-pub returns : goal.returns
-returns c = number_zero c.args.bytes.now c.loop-i.i (omega arith) ∙ c.loop-i.invariant
+pub returns-else-is_ascii_digit : goal.returns-else-is_ascii_digit
+unfolding is_digit
+returns-else-is_ascii_digit c =
+    number_own c.args.bytes.now c.args.place c.at.result c.at.ensures
+    (sym c.is_ascii_digit.ensures.value ∙ c.if-is_ascii_digit.false)

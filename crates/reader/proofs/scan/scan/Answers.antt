@@ -1,18 +1,23 @@
-use Rattle.std.proofs.Common.{◌∙◌, sym, arith}
-use Rattle.reader.specs.ScanCode.{scan_begins, reach_begins, scan_small, scan_turn}
+use Rattle.std.proofs.Common.{◌∙◌, sym, arith, rules}
+use Rattle.std.specs.Prelude.{Some}
+use Rattle.reader.specs.ScanCode.{scan_begins, scan_step, scan_broken, scan_ends}
 use Rattle.reader.proofs.scan.scan.Goals as goal
 
 pub loop-i-init : goal.loop-i-init
-loop-i-init c =
-    let bytes = c.args.bytes.now in
-    (omega arith, c.begin-s.ensures ∙ sym (scan_begins bytes), sym (reach_begins bytes))
-
-pub step-s-requires : goal.step-s-requires
-step-s-requires c = scan_small c.args.bytes.now c.loop-i.i c.loop-i.s c.loop-i.invariant.1
+loop-i-init c = scan_begins c.args.bytes.now
 
 pub loop-i-preserved : goal.loop-i-preserved
 loop-i-preserved c =
     let l = c.loop-i in
-    let t = scan_turn c.args.bytes.now l.i c.byte_at.result l.stop c.reached-stop.result l.s c.step-s.result (omega arith)
-    l.invariant.1 l.invariant.2 c.byte_at.ensures c.step-s.ensures c.reached-stop.ensures in
-    (omega arith, t.0, t.1)
+    scan_step c.args.bytes.now l.i l.s (Some c.in_ok-s.s) (omega arith) l.invariant (sym c.in_ok-s.ensures.ok_part ∙ c.step.ensures)
+
+pub returns-in_err-s : goal.returns-in_err-s
+returns-in_err-s c =
+    let l = c.loop-i in
+    let k = scan_broken c.args.bytes.now l.i l.s (omega arith) l.invariant (sym c.in_err-s.ensures.ok_part ∙ c.step.ensures) in
+    search rules
+
+pub returns : goal.returns
+returns c =
+    let l = c.loop-i in
+    c.ok_or-2.ensures.value ∙ rw c.totals.ensures (scan_ends c.args.bytes.now l.i l.s (omega arith) l.invariant)

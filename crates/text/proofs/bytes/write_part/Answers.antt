@@ -7,12 +7,10 @@ use Rattle.text.proofs.bytes.write_part.Goals as goal
 pub loop-j-preserved : goal.loop-j-preserved
 loop-j-preserved c =
     let p = c.args in
-    let l = c.loop-j in (
-      omega arith,
-      bytes_on (word p.source.now) l.output c.store_byte.new.s p.a p.at l.j (p.count - l.j) (p.count - (l.j + 1)) c.byte_at-byte.result
-          (omega arith) c.byte_at-byte.ensures c.store_byte.ensures
-          ∙ l.invariant.1,
-    )
+    let l = c.loop-j in
+    bytes_on (word p.source.now) l.output c.store.new.s p.a p.at l.j (p.count - l.j) (p.count - (l.j + 1)) c.at.result
+    (omega arith) c.at.ensures c.store.ensures
+    ∙ l.invariant
 
 pub returns : goal.returns
 returns c =
@@ -20,6 +18,6 @@ returns c =
     let l = c.loop-j in
     let w = word p.source.now in
     record {
-      stored = sym (bytes_end w l.output (p.a + l.j) (p.at + l.j) (p.count - l.j) (omega arith)) ∙ l.invariant.1;
+      stored = sym (bytes_end w l.output (p.a + l.j) (p.at + l.j) (p.count - l.j) (omega arith)) ∙ l.invariant;
       reached = omega (arith, stretch_length w p.a p.count);
     }

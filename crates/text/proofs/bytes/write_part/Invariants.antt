@@ -1,12 +1,8 @@
-use Rattle.std.proofs.Common.{◌≡◌, ◌+◌, ◌-◌, ◌≤◌}
+use Rattle.std.proofs.Common.{◌≡◌, ◌+◌, ◌-◌}
 use Rattle.std.proofs.lemmas.List.Edits.{sets}
 use Rattle.words.specs.Definitions.{word, stretch}
 use Rattle.text.proofs.bytes.write_part.Given as goal
 
 abbrev pub invariant-loop-j : goal.invariant-loop-j
 invariant-loop-j l =
-    (l.j ≤ l.count)
-    × (sets l.output (l.at + l.j) (stretch (word l.source) (l.a + l.j) (l.count - l.j)) ≡ sets l.fn.output l.at (stretch (word l.source) l.a l.count))
-
-abbrev pub decreases-loop-j : goal.decreases-loop-j
-decreases-loop-j l = l.count - l.j
+    (sets l.output (l.at + l.j) (stretch (word l.source) (l.a + l.j) (l.count - l.j)) ≡ sets l.fn.output l.at (stretch (word l.source) l.a l.count))

@@ -1,26 +1,20 @@
-use Rattle.std.proofs.Common.{◌+◌, ◌∙◌, ap, arith}
-use Rattle.text.specs.WritingCode.{digits_on, digits_end, digits_before}
+use Rattle.std.proofs.Common.{◌+◌, ap}
+use Rattle.text.specs.WritingCode.{digits_begin, digits_turn}
 use Rattle.text.proofs.decimal.write_decimal.Goals as goal
 
-pub overflow_sub-last-in-loop-left : goal.overflow_sub-last-in-loop-left
-overflow_sub-last-in-loop-left c =
-    omega (arith, digits_before c.args.at c.loop-left.last c.loop-left.left c.loop-left.invariant.0 c.loop-left-test.true)
+pub loop-last-init : goal.loop-last-init
+loop-last-init c =
+    let n = c.digit_count in
+    digits_begin c.args.output.now c.args.at (c.args.at + n.result) c.args.n (ap (λ x. c.args.at + x) n.ensures.0)
 
-pub loop-left-preserved : goal.loop-left-preserved
-loop-left-preserved c =
-    let l = c.loop-left in (
-      (digits_before c.args.at l.last l.left l.invariant.0 c.loop-left-test.true).1,
-      digits_on l.output c.store_byte.new.s c.args.at l.last l.left c.digit.result l.invariant.0 c.store_byte.ensures
-          c.loop-left-test.true c.digit.ensures
-          ∙ l.invariant.1,
-    )
+pub loop-last-preserved : goal.loop-last-preserved
+loop-last-preserved c =
+    let l = c.loop-last in
+    digits_turn c.args.output.now l.output c.store.new.s c.args.at l.last c.args.n l.left c.digit.result c.loop-last-test.true l.invariant
+    c.store.ensures c.digit.ensures
 
 pub returns-clause-writes : goal.returns-clause-writes
-returns-clause-writes c =
-    let l = c.loop-left in
-    record {
-      stored = digits_end l.output c.store_byte-2.new.s c.args.at l.last l.left c.digit-2.result l.invariant.0 c.store_byte-2.ensures
-          c.loop-left-test.false c.digit-2.ensures
-          ∙ l.invariant.1;
-      reached = ap (λ x. c.args.at + x) c.digit_count.ensures.0;
-    }
+returns-clause-writes c = record {
+  stored = c.loop-last.invariant.none c.loop-last-test.false;
+  reached = ap (λ x. c.args.at + x) c.digit_count.ensures.0;
+}
