@@ -61,7 +61,7 @@ pub fn feed(
         };
     }
     let code = lift_in(lifts, pick);
-    let a = append(codes, centres, places, visits, held, code);
     put(letters, Place(held.n), pick);
+    let a = append(codes, centres, places, visits, held, code);
     taken(a, held)
 }
