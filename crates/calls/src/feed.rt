@@ -19,7 +19,7 @@ pub struct Step {
     pub numbers: Numbers,
 }
 
-// One pick more than `held` tells.
+// One pick more than `held` tells. No From, since the numbers come of both.
 fn taken(a: Appended, held: Numbers) -> Step
     requires { held.n < most_picks }
     ensures { (result.answer ≡ FeedAnswer.Taken (mask_byte a.row) a.count) × (result.numbers.n ≡ held.n + 1) × (result.numbers.k ≡ held.k)
@@ -54,6 +54,7 @@ pub fn feed(
         (λ marks. draft_in result.numbers letters.new codes.new lifts.now marks centres.new places.new)
         visits.new }
 {
+    // By hand, where the other calls have `?`: the answer is document 01's enum, no Result.
     if let Err(refusal) = feed_refusal(held, pick, visits.len()) {
         return Step {
             answer: FeedAnswer::Refused(refusal.number()),

@@ -48,7 +48,7 @@ impl Index<{ BY_CENTRE }> for Centre {
     }
 }
 
-// A place, counted in whole picks: place i stands after the first i picks.
+// A place, counted in whole picks: place i stands after the first i picks. What nothing compares or prints derives no more.
 #[derive(Clone, Copy)]
 pub struct Place(pub usize);
 

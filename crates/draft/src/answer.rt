@@ -25,7 +25,7 @@ pub fn byte_count(told: Told) -> usize
     }
 }
 
-// The length of the ending of prefix n with this centre.
+// The length of the ending of prefix n with this centre; the engine's is another definition, cut at n.
 fn ending_length(n: usize, centre: Centre) -> usize
     requires { n ≤ most_picks + 1 }
     ensures { result ≡ ending_length n centre.0 }

@@ -1,4 +1,4 @@
-// The lines that are printed: each is built first and then written as one.
+// The lines that are printed: each is built first and then written as one, where `write!` would write it in pieces.
 ghost use Rattle.std.specs.Prelude.{◌≡◌, ◌+◌, ◌≤◌, length, take, OnOk};
 ghost use Rattle.std.specs.Io.KnownBytes.{Appends};
 ghost use Rattle.text.specs.Writes.{Writes};

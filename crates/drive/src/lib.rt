@@ -24,7 +24,7 @@ use crate::told::{found_told, told};
 use cells::{Centre, Centres, Letters, Lifts, Marks, Numbers, Places};
 use text::bytes::write_bytes;
 
-// The numbers of the state: n, K and the centre of the longest ending.
+// The numbers of the state, which C has as three: n, K and the centre of the longest ending.
 fn held_in(numbers: &[usize; 3]) -> Numbers
     ensures { result ≡ held_in numbers.now }
 {

@@ -5,7 +5,7 @@ ghost use Rattle.drive.specs.Requests.{Requests};
 
 use crate::numbers::Op;
 
-// The bytes of a call.
+// The bytes of a call, as C writes them.
 pub const CALL_SIZE: usize = 6;
 
 // The call, and its arguments.

@@ -104,7 +104,7 @@ pub fn feed_told(answer: FeedAnswer) -> Told
     }
 }
 
-// What a reader yields: 1 for a turn on a pick, 2 for one between two picks, 0 for none.
+// What a reader yields, as C reads it: 1 for a turn on a pick, 2 for one between two picks, 0 for none.
 pub fn found_told(found: Found) -> Told
     ensures { result ≡ found_numbers found }
 {

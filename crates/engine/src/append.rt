@@ -14,7 +14,8 @@ pub struct Appended {
     pub longest: Centre,
 }
 
-// One pick more after those that `held` tells. The lengths of its visits go to the front of the list.
+// One pick more after those that `held` tells. The lengths of its visits go to the front of the list. The arrays are parameters, since a
+// feed is lent them one by one.
 pub fn append(
     letters: &mut Letters,
     centres: &mut Centres,

@@ -19,7 +19,8 @@ fn lost_place(n: usize, s: Centre) -> Place
     Place(s.0.saturating_sub(n + 1))
 }
 
-// One letter more after n of them; the centre of the longest ending was `stored` and is what is returned.
+// One letter more after n of them; the centre of the longest ending was `stored` and is what is returned. The arrays are parameters, since
+// a feed is lent them one by one.
 pub fn append(
     letters: &mut Letters,
     centres: &mut Centres,

@@ -5,7 +5,7 @@ ghost use Rattle.models.specs.IteratorCode.{link_in, unlink_in, unlinks_in};
 use crate::reflection::reflection;
 use cells::{Centre, Centres, entry, put};
 
-// y comes after x.
+// y comes after x. Both are below 65,536, as what is stored has 16 bits; that `as` loses nothing is proved of it.
 pub fn link(centres: &mut Centres, x: Centre, y: Centre)
     requires { (x.0 < 65536) × (y.0 < 65536) }
     ensures { centres.new ≡ link_in centres.old x.0 y.0 }

@@ -30,7 +30,8 @@ pub struct Answered<A> {
     pub state: Draft,
 }
 
-// Document 01, "The answer is either the mask, with the count of visits, or a refusal number". Every other call answers with a Result.
+// Document 01, "The answer is either the mask, with the count of visits, or a refusal number", names this enum as its form, with
+// `Taken(mask, count)` and `Refused(number)`. Every other call answers with a Result.
 #[derive(Clone, Copy)]
 pub enum FeedAnswer {
     // The mask, and the count of visits.

@@ -7,7 +7,7 @@ ghost use Rattle.reader.specs.Numbers.{read_number};
 
 use text::{COMMA, DIGIT_ZERO};
 
-// What a byte makes of a number: it has one digit more, or it has ended.
+// What a byte makes of a number: it has one digit more, or it has ended. No Option: it stands in one, whose None is another byte.
 #[derive(Clone, Copy)]
 pub enum Number {
     More(usize),

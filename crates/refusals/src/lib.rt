@@ -10,7 +10,7 @@ ghost use Rattle.words.specs.Definitions.{most_picks};
 use cells::{ALPHABET, Centre, FIRST_LETTER, LAST_LETTER, Numbers, PICKS, Place, SECTIONS, VISITS};
 use promises::Refusal;
 
-// 1: k outside 1 to most.
+// 1: k outside 1 to most. Each line of the documents' lists is a test of its own, with its number, where two are alike in form as well.
 fn line1(most: usize, k: u8) -> Result<(), Refusal>
     ensures { done_says result ≡ outcome (line1 most k 0) }
 {

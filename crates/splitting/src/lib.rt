@@ -12,7 +12,7 @@ ghost use Rattle.splitting.specs.Says.{first_says};
 use cells::{ByPlace, Centre, Place, entry, store};
 use iterator::reading::Radii;
 
-// Whether the row word has bit k.
+// Whether the row word has bit k; the library has no such test.
 fn has_bit(row: u16, k: u8) -> bool
     requires { k ≤ most_sections }
     ensures { result ≡ eqb (bit row k) 1 }

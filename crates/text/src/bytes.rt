@@ -14,7 +14,8 @@ pub fn write_byte(byte: u8, output: &mut [u8], at: usize) -> usize
     at + 1
 }
 
-// The count bytes after the first a, 0 where there are none, and the place after them.
+// The count bytes after the first a, 0 where there are none, and the place after them. What is written, first and count are made anew at
+// each call.
 pub fn write_part(source: &[u8], a: usize, count: usize, output: &mut [u8], at: usize) -> usize
     requires { (a + count ≤ far) × (at + count ≤ far) }
     ensures { Writes output.old at (stretch (word source.now) a count) output.new result }
