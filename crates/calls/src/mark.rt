@@ -20,7 +20,13 @@ pub fn entry_of(marks: &Marks, name: u8) -> u16
 fn how_many(marks: &[u16]) -> usize
     ensures { result ≡ count_by (λ x. nat_lt 0 x) marks.now }
 {
-    marks.iter().filter(|&&entry| 0 < entry).count()
+    let mut count = 0;
+    for &entry in marks {
+        if 0 < entry {
+            count += 1;
+        }
+    }
+    count
 }
 
 // Whether the name is a mark already, or not a fifth.

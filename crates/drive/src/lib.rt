@@ -71,10 +71,7 @@ pub extern "C" fn drive(
         bytes,
         input,
     };
-    let made = state.follow(script, &mut buffers, answers);
-    let held = state.numbers;
-    *numbers = [held.n, held.k, held.longest.0];
-    made
+    state.follow(numbers, script, &mut buffers, answers)
 }
 
 // Section s of the letters, as far as it fits the part; the answer is the companion's number and the section's length.

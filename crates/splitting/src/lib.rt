@@ -55,8 +55,10 @@ impl Search<'_, '_> {
         ensures { first_says result ≡ first_start self.now.rows.now self.now.radii.radius.now self.now.radii.held.n
             (longest_of self.now.radii.held.n self.now.radii.held.longest.0) k i.0 i.0 0 }
     {
+        // A copy, which no try reads from memory again.
+        let search = *self;
         for j in 0..i.0 {
-            if self.starts_at(k, i, Place(j)) {
+            if search.starts_at(k, i, Place(j)) {
                 return Some(Place(j));
             }
         }

@@ -2,6 +2,7 @@
 //! documents say of them.
 
 mod by_value_copies;
+mod cut_off;
 mod examples;
 mod header_calls;
 mod header_sizes;
