@@ -214,9 +214,15 @@ ok_or_scanned (in_length p c fs v) k = refl
 ok_or_scanned (in_half p c fs len half) k = refl
 ok_or_scanned (closed p fs) k = refl
 
-pub scan_ends : (bytes : List ℕ) (i : ℕ) (s : Scan) → length bytes ≤ i → Some s ≡ numbers_of (after bytes i)
+-- at the end of the bytes r is the state of the reading, none where it has broken off, and stop how far it has come
+pub scan_ends : (bytes : List ℕ) (i stop : ℕ) (r : Optional Scan) → length bytes ≤ i → r ≡ numbers_of (after bytes i)
+    → stop ≡ reach start (take i bytes) → (r ≡ numbers_of (run start bytes)) × (stop ≡ reach start bytes)
+scan_ends bytes i stop r l e f = (e ∙ ap numbers_of (after_all bytes i l), f ∙ ap (reach start) (take_all i bytes l))
+
+-- and the code gives its totals, or how many bytes there are
+pub scan_told : (bytes : List ℕ) (i : ℕ) (s : Scan) → length bytes ≤ i → Some s ≡ numbers_of (after bytes i)
     → ok_or (totals s) (length bytes) ≡ scanned (run start bytes) (reach start bytes)
-scan_ends bytes i s l e = go (run start bytes) refl (e ∙ ap numbers_of (after_all bytes i l))
+scan_told bytes i s l e = go (run start bytes) refl (scan_ends bytes i _ (Some s) l e refl).0
   where
     go : (o : Option State) → run start bytes ≡ o → Some s ≡ numbers_of o → ok_or (totals s) (length bytes) ≡ scanned o (reach start bytes)
     go none f g = clash cc

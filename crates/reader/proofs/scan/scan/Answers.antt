@@ -1,6 +1,6 @@
 use Rattle.std.proofs.Common.{◌∙◌, sym, arith, rules}
 use Rattle.std.specs.Prelude.{Some}
-use Rattle.reader.specs.ScanCode.{scan_begins, scan_step, scan_broken, scan_ends}
+use Rattle.reader.specs.ScanCode.{scan_begins, scan_step, scan_broken, scan_told}
 use Rattle.reader.proofs.scan.scan.Goals as goal
 
 pub loop-i-init : goal.loop-i-init
@@ -20,4 +20,4 @@ returns-in_err-s c =
 pub returns : goal.returns
 returns c =
     let l = c.loop-i in
-    c.ok_or-2.ensures.value ∙ rw c.totals.ensures (scan_ends c.args.bytes.now l.i l.s (omega arith) l.invariant)
+    c.ok_or-2.ensures.value ∙ rw c.totals.ensures (scan_told c.args.bytes.now l.i l.s (omega arith) l.invariant)
