@@ -17,12 +17,15 @@ fn digit(d: usize) -> u8
     DIGIT_ZERO + d as u8
 }
 
-// How many digits n has.
-#[tactic(auto, using(crate::specs::Decimal::length_power))]
+// How many digits n has. One, as most numbers of a record and a line have, is found without a logarithm.
+#[tactic(auto, using(crate::specs::Decimal::length_digit_lem, crate::specs::Decimal::length_power))]
 pub fn digit_count(n: usize) -> usize
     ensures { (result ≡ length (decimal n)) × (0 < result) × (result ≤ most_digits) }
 {
-    n.max(1).ilog10() as usize + 1
+    if n < BASE {
+        return 1;
+    }
+    n.ilog10() as usize + 1
 }
 
 // The digits of n, the last one first, and the place after them.
