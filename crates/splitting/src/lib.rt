@@ -49,7 +49,9 @@ impl Search<'_, '_> {
         false
     }
 
-    // The first start of a last section of prefix i whose rest splits into k: tried from place 0 upward.
+    // The first start of a last section of prefix i whose rest splits into k: tried from place 0 upward. On a frame of its own, which the
+    // searches of the sections before do not pile up.
+    #[inline(never)]
     fn first_start(&self, k: u8, i: Place) -> Option<Place>
         requires { (k ≤ most_sections) × (i.0 ≤ most_picks) }
         ensures { first_says result ≡ first_start self.now.rows.now self.now.radii.radius.now self.now.radii.held.n
