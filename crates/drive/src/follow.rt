@@ -32,11 +32,10 @@ impl State<'_> {
         lent: Sizes,
         answer: &mut [usize],
     ) -> Option<Sizes>
-        requires numbers { held_in numbers.old ≡ self.old.numbers }
         requires script { call_size ≤ length script.now }
         requires lent { Inside (held_by buffers.old) lent }
         requires answer { length answer.old ≡ answer_size }
-        ensures numbers { held_in numbers.new ≡ self.new.numbers }
+        ensures numbers { held_in numbers.old ≡ self.old.numbers → held_in numbers.new ≡ self.new.numbers }
         ensures same { SameParts self.new self.old }
         ensures buffers { SameBuffers buffers.new buffers.old }
         ensures advances { AdvancesAt script.now (held_by buffers.old) answer.old lent result
@@ -64,8 +63,7 @@ impl State<'_> {
         buffers: &mut Buffers<'_, '_>,
         answers: &mut [usize],
     ) -> usize
-        requires { held_in numbers.old ≡ self.old.numbers }
-        ensures numbers { held_in numbers.new ≡ self.new.numbers }
+        ensures numbers { held_in numbers.old ≡ self.old.numbers → held_in numbers.new ≡ self.new.numbers }
         ensures same { SameParts self.new self.old }
         ensures buffers { SameBuffers buffers.new buffers.old }
         ensures drives { Drives (draft_of self.old) script.now (held_by buffers.old) answers.old result

@@ -14,7 +14,7 @@ loop-made-preserved c =
     let s = c.advance.ensures.same in
     let b = c.advance.ensures.buffers in
     record {
-      numbers = c.advance.ensures.numbers;
+      numbers = λ e. c.advance.ensures.numbers (i.numbers e);
       same = (s.0 ∙ i.same.0, s.1 ∙ i.same.1, s.2 ∙ i.same.2, s.3 ∙ i.same.3, s.4 ∙ i.same.4, s.5 ∙ i.same.5);
       buffers = (b.0 ∙ i.buffers.0, b.1 ∙ i.buffers.1, b.2 ∙ i.buffers.2);
       follows = rw b.2 (follows_next i.follows _ (omega arith) (omega arith)
