@@ -20,6 +20,9 @@ pub const DROPPED: &str = "Drop";
 /// The line before a type that stands in memory as C has it, in both.
 pub const AS_IN_C: &str = "#[repr(C)]";
 
+/// Before a method that has a frame of its own, in Rust too.
+pub const NEVER_INLINED: &str = "    #[inline(never)]";
+
 /// How a program's `main` begins, and the same in Rust.
 pub const MAIN: &str = "fn main(rt: HostRuntime) -> io::Result<()> {";
 pub const RUST_MAIN: &str = "fn main() -> io::Result<()> {\n    let rt = host::HostRuntime;";
@@ -253,6 +256,7 @@ fn attribute<'a>(line: &'a str, rest: &[&str]) -> Result<Line<'a>, &'static str>
     match line {
         "#[unsafe(no_mangle)]" => Ok(Line::Left),
         AS_IN_C if is_type(next) => Ok(Line::Written(line.into())),
+        NEVER_INLINED if is_method(next) => Ok(Line::Written(line.into())),
         _ if is_type(next) => derive(line).ok_or("an attribute"),
         _ => Err("an attribute"),
     }

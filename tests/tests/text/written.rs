@@ -2,7 +2,7 @@
 //! known is refused.
 
 use as_rust::sources::{Text, DRAFT, EDGES, LIBRARY};
-use as_rust::text::{rust_of, AS_IN_C, DERIVED, FMT, MAIN, RUST_FMT, RUST_MAIN};
+use as_rust::text::{rust_of, AS_IN_C, DERIVED, FMT, MAIN, NEVER_INLINED, RUST_FMT, RUST_MAIN};
 use comparison::support::executables::of_text;
 use std::fs;
 use std::path::Path;
@@ -174,6 +174,7 @@ fn attributes_before_a_function() {
     }
     for unknown in [
         "#[inline]",
+        NEVER_INLINED,
         "#[no_mangle]",
         "#[derive(Debug)]",
         "#[derive(Clone, Copy)]",
@@ -233,6 +234,17 @@ fn a_contract_of_a_method_is_left_out() {
         method(contract)
     );
     assert_eq!(rust_of(&block("impl Pair", &attribute)), rust_of(&source));
+}
+
+#[test]
+fn an_attribute_of_a_method() {
+    let method = "    pub fn f(&self) -> u8\n    {\n        self.x\n    }\n";
+    let before = |attribute: &str| block("impl Pair", &format!("{attribute}\n{method}"));
+    let known = before(NEVER_INLINED);
+    assert_eq!(rust_of(&known), Ok(known));
+    for unknown in ["    #[inline]", "    #[inline(always)]", "#[inline(never)]"] {
+        assert!(rust_of(&before(unknown)).is_err(), "{unknown}");
+    }
 }
 
 #[test]
